@@ -1,5 +1,5 @@
 // Judging an archive file in a folder.
-ghost use Rattle.std.specs.Prelude.{◌≡◌, ◌≢◌, ◌≤◌, ◌<◌, ℕ, List, length, Some, None, Err, IfOk};
+ghost use Rattle.std.specs.Prelude.{◌≡◌, ◌≤◌, ◌<◌, ℕ, List, length, Some, None, Err, IfOk};
 ghost use Rattle.std.specs.Prelude as prelude;
 ghost use Rattle.key_spec.specs.Data.{PlainRule};
 ghost use Rattle.keyed_tree.specs.Data.{PlainKeyed};
@@ -8,19 +8,26 @@ ghost use Rattle.record_format.specs.Files.{longest};
 ghost use Rattle.xa_outside.specs.Causes.{Rose};
 ghost use Rattle.xa_outside.specs.Folder.{Files, front_of};
 ghost use Rattle.xa_outside.specs.Numbers.{PullsAtMost};
+ghost use Rattle.node_walk.specs.Nodes.{folder_seen};
+ghost use Rattle.archive_check.specs.Judged.{FileJudged};
+ghost use Rattle.archive_check.specs.Read.{PartsRead};
 ghost use Rattle.archive_check.specs.declared.fault.CheckFault.TheVariants.{Damage, Folder};
 
 use crate::fault::CheckFault;
-use archive_file::{FileFault, decode_file};
-use archive_tree::archives_stand_for_one_list;
+use crate::nodes::judge_nodes;
+use archive_tree::ANode;
+use node_walk::read_nodes;
+use record_cursor::{CursorFault, Header, read_header_in};
 use record_format::LONGEST;
 use std::alloc::Global;
-use xa_outside::{Folder, ReadFault, read_front};
+use xa_outside::Folder;
 
 /// The number of versions of the archive that the first `length` bytes of a file are, or Damage
 /// where they are no sound archive.
 ///
-/// It reads these bytes once and whole, and makes room for them first. A file with fewer bytes is damaged.
+/// It reads the header, and then each record once, and holds the nodes, but neither the file nor
+/// its directories. A file that begins with no header is refused after its first bytes, and one
+/// with fewer bytes is damaged.
 pub fn check<F: Folder>(
     alloc: Global,
     folder: &mut F,
@@ -56,27 +63,41 @@ pub fn check<F: Folder>(
     if length > LONGEST {
         return Err(CheckFault::Damage);
     }
-    match read_front(alloc, folder, name, length) {
-        Ok(bytes) if (bytes.len() as u64) < length => Err(CheckFault::Damage),
-        Ok(bytes) => versions_in(alloc, &bytes),
-        Err(ReadFault::Folder) => Err(CheckFault::Folder),
-        Err(ReadFault::Memory) => Err(CheckFault::Memory),
+    judge_file(alloc, folder, name, length)
+}
+
+/// Judges the first bytes of a file, so many.
+fn judge_file<F: Folder>(
+    alloc: Global,
+    folder: &mut F,
+    name: &str,
+    length: u64,
+) -> Result<u32, CheckFault>
+    requires { length ≤ longest }
+    ensures { FileJudged name.now length
+        (folder_seen F.files F.draft F.numbers F.faults folder.old)
+        (folder_seen F.files F.draft F.numbers F.faults folder.new) result }
+{
+    match read_parts(alloc, folder, name, length) {
+        Ok((header, nodes)) => judge_nodes(alloc, &header, nodes),
+        Err(CursorFault::Damage) => Err(CheckFault::Damage),
+        Err(CursorFault::Folder) => Err(CheckFault::Folder),
+        Err(CursorFault::Memory) => Err(CheckFault::Memory),
     }
 }
 
-// The number of versions of the archive that the bytes are.
-fn versions_in(alloc: Global, bytes: &[u8]) -> Result<u32, CheckFault>
-    ensures sound { IfOk result (λ n. (s : Sound bytes.now) × (length s.versions ≡ n)) }
-    ensures versions { (rules : List PlainRule) (vs : List PlainKeyed)
-        → SoundAs rules vs bytes.now → IfOk result (λ n. n ≡ length vs) }
-    ensures damage { result ≡ Err Damage → ¬ (Sound bytes.now) }
-    ensures inside { result ≢ Err Folder }
+/// The header and the nodes of the first bytes of a file, so many.
+fn read_parts<F: Folder>(
+    alloc: Global,
+    folder: &mut F,
+    name: &str,
+    length: u64,
+) -> Result<(Header, Vec<ANode>), CursorFault>
+    ensures { PartsRead name.now length
+        (folder_seen F.files F.draft F.numbers F.faults folder.old)
+        (folder_seen F.files F.draft F.numbers F.faults folder.new) result }
 {
-    // A law, for the proof of `sound`.
-    archives_stand_for_one_list();
-    match decode_file(alloc, bytes) {
-        Ok((_, archive)) => Ok(archive.n()),
-        Err(FileFault::Damage) => Err(CheckFault::Damage),
-        Err(FileFault::Memory) => Err(CheckFault::Memory),
-    }
+    let header = read_header_in(alloc, folder, name, length)?;
+    let nodes = read_nodes(alloc, folder, name, &header)?;
+    Ok((header, nodes))
 }

@@ -1,5 +1,6 @@
 -- The nodes of a file, and its end.
-use Rattle.std.proofs.Common.{◌≡◌, ◌≢◌, ℕ, ◌-◌, ◌≤◌, Bool, cond, List, [], drop, Option, Some, None, Ok, Err, Vec, refl, sym, ap, subst, ◌∙◌, arith}
+use Rattle.std.proofs.Common.{◌≡◌, ◌≢◌, ℕ, ◌-◌, ◌≤◌, Bool, cond, List, [], length, drop, Option, Some, None, Ok, Err, Vec, refl, sym, ap, subst, ◌∙◌, arith}
+use Rattle.std.specs.FinMap as map
 use Rattle.std.specs.declared.alloc.Global.{Global}
 use Rattle.std.proofs.lemmas.Slice.Eq.{bytes_eq-Decides}
 use Rattle.version_set.specs.Members.{upto_pairs}
@@ -7,6 +8,7 @@ use Rattle.archive_tree.specs.Data.{PlainNodes}
 use Rattle.archive_tree.specs.View.{nodes_view}
 use Rattle.archive_tree.specs.declared.node.ANode.{ANode}
 use Rattle.xa_fields.specs.Spelling.{u64_bytes}
+use Rattle.xa_outside.specs.Folder.{bytes_or_none}
 use Rattle.xa_outside.specs.Numbers.{IsMeter, PullsAtMost}
 use Rattle.xa_outside.specs.NumberLaws.{PullsAtMost-none, PullsAtMost-more}
 use Rattle.record_parts.specs.Bounds.{deepest}
@@ -46,6 +48,7 @@ module _ (n : ℕ) (s : Seen) (stands : s.cursor.standing ≡ behind_root n) whe
     lies = λ bytes told. tt;
     found = λ bytes told is. damage-map e (next_of s.cursor.standing (at_hand s bytes) ≡ None) ⊥
         (λ none. not-none (next_of (behind_root n) (at_hand s bytes)) (finish, (finished, [])) (tail-comes n (at_hand s bytes) is) (subst (λ (p : Standing). next_of p (at_hand s bytes) ≡ None) stands none)) (h.damage bytes told);
+    whole = λ files told. tt;
   }
 
   pub finish-read : (t : Seen) → Reads s t None → Given s t finish → FinishRead n s t (Ok tt)
@@ -53,7 +56,11 @@ module _ (n : ℕ) (s : Seen) (stands : s.cursor.standing ≡ behind_root n) whe
     reads = reads;
     lies = λ bytes told. (subst (λ (p : Standing). IsSpelled p finish (at_hand s bytes) (at_hand t bytes)) stands (g.spelled bytes told)).0;
     found = λ bytes told is. tt;
+    whole = λ files told. g.whole files told (λ e. open-yet (sym stands ∙ e)) refl;
   }
+    where
+      open-yet : behind_root n ≡ finished → ⊥
+      open-yet e = cc
 
   no-other : (t : Seen) (o : Owned) → o ≢ owned.Finish → Given s t (owned_view o) → ⊥
   no-other t (owned.Inner l a) f g = leads-nowhere s t (owned_view (owned.Inner l a)) (behind_root n) stands refl g
@@ -114,6 +121,7 @@ module _ (name : List ℕ) (h : PlainHeader) (s : Seen) (is : s.cursor ≡ recor
       formed = tt;
       lies = λ bytes front. tt;
       found = λ bytes front ks lie. r.found bytes (told-here bytes front) ks (u64_bytes (end_length (upto_pairs h.versions) ks)) (row-here bytes (u64_bytes (end_length (upto_pairs h.versions) ks)) ks set own lie);
+      whole = λ files told. tt;
     }
 
   module _ (t u : Seen) (set : List (ℕ × ℕ)) (own : set ≡ upto_pairs h.versions) (nodes : Vec ANode Global) (n : ℕ) (row : RowRead set s t (Ok (nodes, n))) where
@@ -144,6 +152,11 @@ module _ (name : List ℕ) (h : PlainHeader) (s : Seen) (is : s.cursor ≡ recor
               let long : n ≡ end_length (upto_pairs h.versions) ks = y.1 ∙ ap (λ (z : List (ℕ × ℕ)). end_length z ks) own in
               subst (λ (z : List ℕ). RowAt (upto_pairs h.versions) ks z deepest (drop h.first bytes)) (tail ∙ ap u64_bytes long) (row-back bytes (at_hand t bytes) ks set own y.0));
           found = λ bytes front ks lie. (tail-here bytes (told-here bytes front) ks lie).0;
+          whole = λ files told. (
+              let there = f.whole files (row.reads.same_files ∙ told) in
+              let long : t.cursor.length ≡ h.length = row.reads.same_length ∙ ap (λ (c : PlainCursor). c.length) is in
+              let named : t.cursor.name ≡ name = row.reads.same_name ∙ ap (λ (c : PlainCursor). c.name) is in
+              subst (λ (x : List ℕ). h.length ≤ length (bytes_or_none (map.get files x))) named (subst (λ (x : ℕ). x ≤ length (bytes_or_none (map.get files t.cursor.name))) long there));
         }
 
     pub nodes-unfinished : (e : CursorFault) → FinishRead n t u (Err e) → NodesRead name h (folder_of s) (folder_of u) (Err e)
@@ -158,6 +171,7 @@ module _ (name : List ℕ) (h : PlainHeader) (s : Seen) (is : s.cursor ≡ recor
           formed = tt;
           lies = λ bytes front. tt;
           found = λ bytes front ks lie. (let told = told-here bytes front in f.found bytes (told-on s t None bytes row.reads told) (tail-here bytes told ks lie).1);
+          whole = λ files told. tt;
         }
 
 -- there is no memory to begin with
@@ -171,4 +185,5 @@ nodes-memory name h s meter = record {
   formed = tt;
   lies = λ bytes front. tt;
   found = λ bytes front ks lie. tt;
+  whole = λ files told. tt;
 }

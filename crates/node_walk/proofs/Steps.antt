@@ -1,12 +1,12 @@
 -- One step of a walk after another.
-use Rattle.std.proofs.Common.{◌≡◌, ℕ, ◌+◌, ◌-◌, ◌≤◌, List, drop, Option, Some, None, Result, Ok, Err, refl, sym, ap, subst, ◌∙◌, arith}
+use Rattle.std.proofs.Common.{◌≡◌, ◌≢◌, ℕ, ◌+◌, ◌-◌, ◌≤◌, List, drop, Option, Some, None, Result, Ok, Err, refl, sym, ap, subst, ◌∙◌, arith}
 use Rattle.std.specs.Result.{IsErrAnd}
 use Rattle.xa_outside.specs.Causes.{Rose}
 use Rattle.xa_outside.specs.Folder.{Files}
 use Rattle.xa_outside.specs.Numbers.{PullsAtMost, after_pull}
 use Rattle.xa_outside.specs.NumberLaws.{PullsAtMost-of, PullsAtMost-more, PullsAtMost-trans}
 use Rattle.record_cursor.specs.Faults.{IfDamage, IfFolder}
-use Rattle.record_cursor.specs.Items.{PlainItem}
+use Rattle.record_cursor.specs.Items.{PlainItem, finish}
 use Rattle.record_cursor.specs.Moves.{TellsFront, Goes, Moves}
 use Rattle.record_cursor.specs.Next.{next_of, size_of, read_for}
 use Rattle.record_cursor.specs.Places.{Standing, among_nodes, in_leaf, behind_root, finished}
@@ -19,7 +19,7 @@ use Rattle.record_cursor.specs.declared.item.Item.{Item}
 use Rattle.record_cursor.proofs.Pulled.{read-within}
 use Rattle.node_walk.specs.Owned.{owned_view, HasStamp, HasParts}
 use Rattle.node_walk.specs.Places.{depth_of, IsAmongNodes, IsInLeaf}
-use Rattle.node_walk.specs.Seen.{Seen, Told, at_hand, may_pull, Reads}
+use Rattle.node_walk.specs.Seen.{Seen, Told, IsWhole, at_hand, may_pull, Reads}
 use Rattle.node_walk.specs.Walked.{Given, OwnedRead}
 use Rattle.node_walk.specs.declared.owned.Owned.{Owned}
 
@@ -102,6 +102,10 @@ stayed told old new r e is h = subst (λ (x : Result Item CursorFault). Moves to
 abbrev pub Spells : Seen → Item → Type 0
 Spells s item = (bytes : List ℕ) → Told s bytes → IsSpelled s.cursor.standing (shown_item item) (at_hand s bytes) (drop (s.cursor.at + size_of s.cursor.standing (shown_item item)) bytes)
 
+-- that the file ends is given only of one that has so many bytes
+abbrev pub Ends : Seen → Item → Type 0
+Ends s item = (files : Files) → s.files ≡ Some files → s.cursor.standing ≢ finished → shown_item item ≡ finish → IsWhole s files
+
 -- the cursor gave an item
 pub record Gave (s t : Seen) (item : Item) : Type 0 where
   pub files : t.files ≡ s.files
@@ -110,10 +114,11 @@ pub record Gave (s t : Seen) (item : Item) : Type 0 where
   pub later : s.faults ≤ t.faults
   pub goes : Goes s.files s.cursor item t.cursor
   pub spelled : (bytes : List ℕ) → Told s bytes → IsSpelled s.cursor.standing (shown_item item) (at_hand s bytes) (at_hand t bytes)
+  pub whole : Ends s item
 
 pub gave : (s t : Seen) (r : Result Item CursorFault) (item : Item) → r ≡ Ok item → t.files ≡ s.files → t.draft ≡ s.draft → t.numbers ≡ after_pull s.numbers (read_for s.cursor.standing (shown_item item)) → s.faults ≤ t.faults → Moves s.files s.cursor r t.cursor → Spells s item
-    → Gave s t item
-gave s t r item is files draft numbers later moves spells =
+    → Ends s item → Gave s t item
+gave s t r item is files draft numbers later moves spells whole =
     let goes = went s.files s.cursor t.cursor r item is moves in
     record {
       files = files;
@@ -122,6 +127,7 @@ gave s t r item is files draft numbers later moves spells =
       later = later;
       goes = goes;
       spelled = λ bytes told. subst (λ (n : ℕ). IsSpelled s.cursor.standing (shown_item item) (at_hand s bytes) (drop n bytes)) (sym goes.moved) (spells bytes told);
+      whole = whole;
     }
 
 gave-reads : (s t : Seen) (item : Item) → Gave s t item → Reads s t None
@@ -141,7 +147,7 @@ gave-reads s t item h =
     }
 
 gave-given : (s t : Seen) (item : Item) → Gave s t item → Given s t (shown_item item)
-gave-given s t item h = record { may_come = h.goes.may_come; moved = h.goes.moved; pulled = h.numbers; comes = h.goes.comes; spelled = h.spelled }
+gave-given s t item h = record { may_come = h.goes.may_come; moved = h.goes.moved; pulled = h.numbers; comes = h.goes.comes; spelled = h.spelled; whole = h.whole }
 
 -- and it is owned
 pub owned : (s t : Seen) (item : Item) (o : Owned) → Gave s t item → owned_view o ≡ shown_item item → HasStamp o → HasParts o → OwnedRead s t (Ok o)

@@ -1,13 +1,14 @@
 -- What reading the nodes of a file does.
-use Rattle.std.specs.Prelude.{◌≡◌, ◌≤◌, ℕ, ◌-◌, List, drop, Option, Result, IfOk, Vec}
+use Rattle.std.specs.Prelude.{◌≡◌, ◌≤◌, ℕ, ◌-◌, List, length, drop, Option, Some, Result, IfOk, Vec}
 use Rattle.std.specs.declared.alloc.Global.{Global}
+use Rattle.std.specs.FinMap as map
 use Rattle.version_set.specs.Members.{upto_pairs}
 use Rattle.archive_tree.specs.Data.{PlainNodes}
 use Rattle.archive_tree.specs.View.{nodes_view}
 use Rattle.archive_tree.specs.WellFormed.{AreNodesWellFormed}
 use Rattle.archive_tree.specs.declared.node.ANode.{ANode}
 use Rattle.xa_fields.specs.Spelling.{u64_bytes}
-use Rattle.xa_outside.specs.Folder.{Files}
+use Rattle.xa_outside.specs.Folder.{Files, bytes_or_none}
 use Rattle.xa_outside.specs.Numbers.{Numbers, PullsAtMost}
 use Rattle.record_parts.specs.Bounds.{deepest}
 use Rattle.archive_file.specs.Laid.{RowAt}
@@ -33,7 +34,8 @@ abbrev pub NodesLie : PlainHeader → PlainNodes → List ℕ → Type 0
 NodesLie h ks bytes = RowAt (upto_pairs h.versions) ks (u64_bytes (end_length (upto_pairs h.versions) ks)) deepest (drop h.first bytes)
 
 -- The nodes behind a header were read. The folder is only read, each byte at most once, and fails only where its count rose.
--- The nodes are well formed. Where the files are told, the nodes lie there, and damage is where none do.
+-- The nodes are well formed. Where the files are told, the nodes lie there, and damage is where none do; a file with fewer bytes
+-- than the header knows of gives none.
 pub record NodesRead (name : List ℕ) (h : PlainHeader) (s t : FolderSeen) (r : Result (Vec ANode Global) CursorFault) : Type 0 where
   pub same_files : t.files ≡ s.files
   pub same_draft : t.draft ≡ s.draft
@@ -43,3 +45,4 @@ pub record NodesRead (name : List ℕ) (h : PlainHeader) (s t : FolderSeen) (r :
   pub formed : IfOk r (λ xs. AreNodesWellFormed (nodes_view xs.items))
   pub lies : (bytes : List ℕ) → TellsFront s.files name h.length bytes → IfOk r (λ xs. NodesLie h (nodes_view xs.items) bytes)
   pub found : (bytes : List ℕ) → TellsFront s.files name h.length bytes → (ks : PlainNodes) → NodesLie h ks bytes → Filled r (λ xs. nodes_view xs.items ≡ ks)
+  pub whole : (files : Files) → s.files ≡ Some files → IfOk r (λ xs. h.length ≤ length (bytes_or_none (map.get files name)))

@@ -1,6 +1,7 @@
 -- What a walk goes along: a folder, and the cursor that reads an archive file in it.
-use Rattle.std.specs.Prelude.{◌≡◌, ◌≤◌, ℕ, ◌-◌, List, drop, Option, Some, None}
-use Rattle.xa_outside.specs.Folder.{Files}
+use Rattle.std.specs.Prelude.{◌≡◌, ◌≤◌, ℕ, ◌-◌, List, length, drop, Option, Some, None}
+use Rattle.std.specs.FinMap as map
+use Rattle.xa_outside.specs.Folder.{Files, bytes_or_none}
 use Rattle.xa_outside.specs.Numbers.{Numbers, PullsAtMost}
 use Rattle.record_cursor.specs.Moves.{TellsFront}
 use Rattle.record_cursor.specs.Steps.{IsCause}
@@ -21,6 +22,10 @@ seen files draft numbers faults folder cursor = record { files = files folder; d
 -- the files are told, and these bytes are the part of the file that is read
 abbrev pub Told : Seen → List ℕ → Type 0
 Told s bytes = TellsFront s.files s.cursor.name s.cursor.length bytes
+
+-- the file has as many bytes as are to be read
+abbrev pub IsWhole : Seen → Files → Type 0
+IsWhole s files = s.cursor.length ≤ length (bytes_or_none (map.get files s.cursor.name))
 
 -- what is left of the bytes
 abbrev pub at_hand : Seen → List ℕ → List ℕ

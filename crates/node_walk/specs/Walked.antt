@@ -1,5 +1,5 @@
 -- What the parts of a walk do.
-use Rattle.std.specs.Prelude.{◌≡◌, ◌≤◌, ◌<◌, ℕ, ◌+◌, ◌-◌, ◌^◌, List, ◌++◌, length, map, take, drop, Some, None, ⊤, IsTrue, Result, IfOk, OnOk, IfErr, Vec}
+use Rattle.std.specs.Prelude.{◌≡◌, ◌≢◌, ◌≤◌, ◌<◌, ℕ, ◌+◌, ◌-◌, ◌^◌, List, ◌++◌, length, map, take, drop, Some, None, ⊤, IsTrue, Result, IfOk, OnOk, IfErr, Vec}
 use Rattle.std.specs.declared.alloc.Global.{Global}
 use Rattle.archive_tree.specs.Data.{PlainAlt, PlainNode, PlainNodes}
 use Rattle.archive_tree.specs.View.{alt_view, node_view, nodes_view}
@@ -7,6 +7,7 @@ use Rattle.archive_tree.specs.WellFormed.{are_alts_well_formed, IsNodeWellFormed
 use Rattle.archive_tree.specs.declared.node.ANode.{ANode}
 use Rattle.archive_tree.specs.declared.node.Alt.{Alt}
 use Rattle.xa_fields.specs.Spelling.{u64_bytes}
+use Rattle.xa_outside.specs.Folder.{Files}
 use Rattle.xa_outside.specs.Numbers.{PullsAtMost, after_pull}
 use Rattle.record_format.specs.Bounds.{IsRec}
 use Rattle.record_format.specs.Data.{PlainDir, end_rec}
@@ -14,16 +15,16 @@ use Rattle.record_format.specs.Nodes.{dir_of, node_piece, node_pieces}
 use Rattle.record_format.specs.Spelling.{dir_bytes, framed, rec_bytes}
 use Rattle.archive_file.specs.Laid.{AltsAt, NodeAt, RowAt}
 use Rattle.record_cursor.specs.Faults.{IfDamage}
-use Rattle.record_cursor.specs.Items.{PlainItem, end_item}
+use Rattle.record_cursor.specs.Items.{PlainItem, end_item, finish}
 use Rattle.record_cursor.specs.Next.{next_of, read_for, size_of}
-use Rattle.record_cursor.specs.Places.{among_nodes, closed_by, after_item}
+use Rattle.record_cursor.specs.Places.{among_nodes, closed_by, finished, after_item}
 use Rattle.record_cursor.specs.Spelled.{IsSpelled}
 use Rattle.record_cursor.specs.Steps.{fault_of, IsCause, Filled}
 use Rattle.record_cursor.specs.declared.fault.CursorFault.{CursorFault}
 use Rattle.row_ends.specs.Kids.{PlainKids, dir_in}
 use Rattle.node_walk.specs.Owned.{owned_view, HasStamp, HasParts}
 use Rattle.node_walk.specs.Places.{depth_of, left_of}
-use Rattle.node_walk.specs.Seen.{Seen, Told, at_hand, Reads}
+use Rattle.node_walk.specs.Seen.{Seen, Told, IsWhole, at_hand, Reads}
 use Rattle.node_walk.specs.declared.owned.Owned.{Owned}
 use Rattle.node_walk.specs.declared.rows.InRow.{InRow}
 use Rattle.node_walk.specs.declared.rows.InRow.TheVariants.{Node, End}
@@ -37,6 +38,7 @@ pub record Given (s t : Seen) (i : PlainItem) : Type 0 where
   pub pulled : t.numbers ≡ after_pull s.numbers (read_for s.cursor.standing i)
   pub comes : (bytes : List ℕ) → Told s bytes → next_of s.cursor.standing (at_hand s bytes) ≡ Some (i, (t.cursor.standing, at_hand t bytes))
   pub spelled : (bytes : List ℕ) → Told s bytes → IsSpelled s.cursor.standing i (at_hand s bytes) (at_hand t bytes)
+  pub whole : (files : Files) → s.files ≡ Some files → s.cursor.standing ≢ finished → i ≡ finish → IsWhole s files
 
 -- What stands at the cursor was read. Damage is where nothing stands there that may come.
 pub record OwnedRead (s t : Seen) (r : Result Owned CursorFault) : Type 0 where
@@ -51,6 +53,7 @@ pub record FinishRead (n : ℕ) (s t : Seen) (r : Result (Unit {0}) CursorFault)
   pub reads : Reads s t (fault_of r)
   pub lies : (bytes : List ℕ) → Told s bytes → OnOk r (at_hand s bytes ≡ u64_bytes n)
   pub found : (bytes : List ℕ) → Told s bytes → at_hand s bytes ≡ u64_bytes n → IfErr r (λ e. IfDamage e ⊥)
+  pub whole : (files : Files) → s.files ≡ Some files → OnOk r (IsWhole s files)
 
 -- ---- leaves
 

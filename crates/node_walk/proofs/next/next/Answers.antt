@@ -12,7 +12,7 @@ at g = (let f = g.F.Folder in seen f.files f.draft f.numbers f.faults)
 given : (g : Over) (c : In-Ok g) → Gave (at g c.args.folder.now c.args.cursor.now) (at g c.next.new.folder c.next.follows.lender-at-none) c.in-Ok.item
 given g c =
     let i = c.in-Ok in
-    gave (at g c.args.folder.now c.args.cursor.now) (at g c.next.new.folder c.next.follows.lender-at-none) c.next.result i.item i.is i.ensures.files i.ensures.draft i.ensures.numbers i.ensures.later c.next.follows.holds-at-none i.ensures.spelled
+    gave (at g c.args.folder.now c.args.cursor.now) (at g c.next.new.folder c.next.follows.lender-at-none) c.next.result i.item i.is i.ensures.files i.ensures.draft i.ensures.numbers i.ensures.later c.next.follows.holds-at-none i.ensures.spelled i.ensures.whole
 
 pub returns-in-Ok-own : goal.returns-in-Ok-own
 returns-in-Ok-own g c =
