@@ -464,6 +464,10 @@ const REPLACED: &[Replaced] = &[
         event: Event::Moves("B", "A"),
     },
     Replaced {
+        words: &["stats", "A"],
+        event: Event::Moves("B", "A"),
+    },
+    Replaced {
         words: &["cut", "A", "N", "1", "1"],
         event: Event::Moves("B", "A"),
     },
