@@ -17,6 +17,11 @@ use Rattle.file_get.specs.declared.span.Place.{Place}
 use Rattle.file_get.specs.declared.fault.GetFault.{GetFault}
 use Rattle.file_get.specs.Searched.{tree_read}
 
+-- the place that a search came to, if it did not fail
+abbrev pub arrived : Place → Result Unit GetFault → Result Place GetFault
+arrived p (Ok u) = Ok p
+arrived p (Err e) = Err e
+
 -- how far a search has come in a row that ends here
 abbrev pub reach : ℕ → Result Place GetFault → ℕ
 reach end (Ok p) = p.after

@@ -45,7 +45,7 @@ pub(crate) struct Alternative {
 /// between two offsets. Of the alternatives before it the timestamps alone are read. The room takes
 /// the bytes out of which it is lent.
 pub(crate) fn read_body<'a, F: Folder>(
-    ask: Ask<'_>,
+    ask: &Ask<'_>,
     folder: &mut F,
     at: u64,
     end: u64,
@@ -55,10 +55,10 @@ pub(crate) fn read_body<'a, F: Folder>(
     ensures reads { OnlyReads F.files F.draft F.faults folder.old folder.new (fault_of result) }
     ensures pulls { PullsAtMost (end - at) (F.numbers folder.old) (F.numbers folder.new) }
     ensures told { (last : ℕ) (bytes more : List ℕ) (set : List (ℕ × ℕ)) (xs : List PlainAlt)
-        → AltsTold ask.entry.version (F.files folder.old) ask.entry.name.now bytes last at end
+        → AltsTold ask.now.version (F.files folder.old) ask.now.name.now bytes last at end
         set xs more
-        → Filled result (λ b. body_view b ≡ Some (body_at ask.entry.version (members set) xs))
-        × PullsAtMost (alts_read ask.entry.version set xs)
+        → Filled result (λ b. body_view b ≡ Some (body_at ask.now.version (members set) xs))
+        × PullsAtMost (alts_read ask.now.version set xs)
         (F.numbers folder.old) (F.numbers folder.new) }
 {
     let mut at = at;
@@ -76,7 +76,7 @@ pub(crate) fn read_body<'a, F: Folder>(
 
 // The alternative at an offset, of which the timestamp is read.
 fn read_alternative<F: Folder>(
-    ask: Ask<'_>,
+    ask: &Ask<'_>,
     folder: &mut F,
     at: u64,
     end: u64,
@@ -90,11 +90,11 @@ fn read_alternative<F: Folder>(
         (F.numbers folder.old) (F.numbers folder.new)) }
     ensures pulls { PullsAtMost (end - at) (F.numbers folder.old) (F.numbers folder.new) }
     ensures told { (last : ℕ) (bytes more : List ℕ) (set : List (ℕ × ℕ)) (x : PlainAlt)
-        → TellsFront (F.files folder.old) ask.entry.name.now last bytes → end ≤ last
+        → TellsFront (F.files folder.old) ask.now.name.now last bytes → end ≤ last
         → StandsAt bytes at (rec_bytes (alt_of x) ++ more)
         → end ≡ at + length (rec_bytes (alt_of x) ++ more) → IsRec (alt_of x)
-        → has (members set) ask.entry.version ≡ true
-        → Filled result (AltIs ask.entry.version at set x)
+        → has (members set) ask.now.version ≡ true
+        → Filled result (AltIs ask.now.version at set x)
         × PullsAtMost (stamp_read x.stamp)
         (F.numbers folder.old) (F.numbers folder.new) }
 {
@@ -117,7 +117,7 @@ fn read_alternative<F: Folder>(
 
 // The offset behind the alternative at an offset, and whether its timestamp is stored.
 fn read_head<F: Folder>(
-    ask: Ask<'_>,
+    ask: &Ask<'_>,
     folder: &mut F,
     at: u64,
     end: u64,
@@ -129,7 +129,7 @@ fn read_head<F: Folder>(
     ensures pulls { PullsAtMost 10 (F.numbers folder.old) (F.numbers folder.new) }
     ensures inside { PullsAtMost (end - at) (F.numbers folder.old) (F.numbers folder.new) }
     ensures told { (last : ℕ) (bytes more : List ℕ) (x : PlainAlt)
-        → TellsFront (F.files folder.old) ask.entry.name.now last bytes → end ≤ last
+        → TellsFront (F.files folder.old) ask.now.name.now last bytes → end ≤ last
         → StandsAt bytes at (rec_bytes (alt_of x) ++ more)
         → end ≡ at + length (rec_bytes (alt_of x) ++ more) → IsRec (alt_of x)
         → Filled result (λ h. (h.0 ≡ at + length (rec_bytes (alt_of x)))
@@ -169,7 +169,7 @@ fn head_within(head: &[u8], room: u64) -> Option<(u64, bool)>
 
 // Whether the version is in the set at an offset, and the offset behind the set.
 fn read_set<F: Folder>(
-    ask: Ask<'_>,
+    ask: &Ask<'_>,
     folder: &mut F,
     at: u64,
     end: u64,
@@ -183,9 +183,9 @@ fn read_set<F: Folder>(
         (F.numbers folder.old) (F.numbers folder.new)) }
     ensures pulls { PullsAtMost (end - at) (F.numbers folder.old) (F.numbers folder.new) }
     ensures told { (last : ℕ) (bytes : List ℕ) (s : List (ℕ × ℕ))
-        → TellsFront (F.files folder.old) ask.entry.name.now last bytes → end ≤ last
+        → TellsFront (F.files folder.old) ask.now.name.now last bytes → end ≤ last
         → StandsAt bytes at (set_bytes s) → at + length (set_bytes s) ≤ end → IsSet s
-        → Filled result (SetIs ask.entry.version (at + length (set_bytes s)) s)
+        → Filled result (SetIs ask.now.version (at + length (set_bytes s)) s)
         × PullsAtMost (4 + 8 * searched (length s)) (F.numbers folder.old) (F.numbers folder.new) }
 {
     let count = match read_count(ask, folder, at, end) {
@@ -200,7 +200,7 @@ fn read_set<F: Folder>(
 
 /// How many intervals the set at an offset has, all of which stand in front of the end.
 pub(crate) fn read_count<F: Folder>(
-    ask: Ask<'_>,
+    ask: &Ask<'_>,
     folder: &mut F,
     at: u64,
     end: u64,
@@ -212,7 +212,7 @@ pub(crate) fn read_count<F: Folder>(
     ensures pulls { PullsAtMost 4 (F.numbers folder.old) (F.numbers folder.new) }
     ensures inside { PullsAtMost (end - at) (F.numbers folder.old) (F.numbers folder.new) }
     ensures told { (last : ℕ) (bytes : List ℕ) (s : List (ℕ × ℕ))
-        → TellsFront (F.files folder.old) ask.entry.name.now last bytes → end ≤ last
+        → TellsFront (F.files folder.old) ask.now.name.now last bytes → end ≤ last
         → StandsAt bytes at (set_bytes s) → at + length (set_bytes s) ≤ end → IsSet s
         → Filled result (λ n. n ≡ length s) }
 {
@@ -253,7 +253,7 @@ pub(crate) fn is_among(pairs: &[u8], count: u32, version: u32) -> Result<bool, C
 
 // What a leaf holds whose value stands between two offsets.
 fn read_value<'a, F: Folder>(
-    ask: Ask<'_>,
+    ask: &Ask<'_>,
     folder: &mut F,
     at: u64,
     end: u64,
@@ -263,7 +263,7 @@ fn read_value<'a, F: Folder>(
     ensures reads { OnlyReads F.files F.draft F.faults folder.old folder.new (fault_of result) }
     ensures pulls { PullsAtMost (end - at) (F.numbers folder.old) (F.numbers folder.new) }
     ensures told { (last : ℕ) (bytes : List ℕ) (b : PlainKey)
-        → TellsFront (F.files folder.old) ask.entry.name.now last bytes → end ≤ last
+        → TellsFront (F.files folder.old) ask.now.name.now last bytes → end ≤ last
         → StandsAt bytes at (value_bytes b) → end ≡ at + length (value_bytes b) → IsValue b
         → Filled result (λ v. body_view v ≡ Some b) }
 {

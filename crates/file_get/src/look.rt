@@ -32,7 +32,7 @@ pub(crate) enum Sight {
 /// Looks at the node of the stored tree at the front of a part of a row. In one of more than eight
 /// intervals the version is looked for by halving.
 pub(crate) fn look<F: Folder, L: Ledger>(
-    ask: Ask<'_>,
+    ask: &Ask<'_>,
     folder: &mut F,
     steps: &mut Steps<L>,
     span: Span,
@@ -47,9 +47,9 @@ pub(crate) fn look<F: Folder, L: Ledger>(
     ensures steps { steps.new ≡ steps.old + 1 }
     ensures told { (bytes : List ℕ) (end : ℕ) (row : PlainRow) (parent : List (ℕ × ℕ))
         (front ks behind : List PlainNode)
-        → LookTold (F.files folder.old) ask.entry.name.now bytes end row span parent
+        → LookTold (F.files folder.old) ask.now.name.now bytes end row span parent
         front ks behind
-        → Filled result (LookIs ask.entry.version bytes row parent front ks behind)
+        → Filled result (LookIs ask.now.version bytes row parent front ks behind)
         × PullsAtMost (own_read (tree_over parent ks))
         (F.numbers folder.old) (F.numbers folder.new) }
 {
@@ -64,7 +64,7 @@ pub(crate) fn look<F: Folder, L: Ledger>(
 }
 
 // Looks at the stored leaf over the only child of a part. A long set is not read whole.
-fn look_at_leaf<F: Folder>(ask: Ask<'_>, folder: &mut F, span: Span) -> Result<Sight, CursorFault>
+fn look_at_leaf<F: Folder>(ask: &Ask<'_>, folder: &mut F, span: Span) -> Result<Sight, CursorFault>
     requires ordered { span.at ≤ span.limit }
     requires short { span.limit < 2 ^ 64 }
     requires one { span.count ≡ 1 }
@@ -75,9 +75,9 @@ fn look_at_leaf<F: Folder>(ask: Ask<'_>, folder: &mut F, span: Span) -> Result<S
         (F.numbers folder.old) (F.numbers folder.new) }
     ensures told { (bytes : List ℕ) (end : ℕ) (row : PlainRow) (parent : List (ℕ × ℕ))
         (front ks behind : List PlainNode)
-        → LookTold (F.files folder.old) ask.entry.name.now bytes end row span parent
+        → LookTold (F.files folder.old) ask.now.name.now bytes end row span parent
         front ks behind
-        → Filled result (LookIs ask.entry.version bytes row parent front ks behind)
+        → Filled result (LookIs ask.now.version bytes row parent front ks behind)
         × PullsAtMost (own_read (tree_over parent ks))
         (F.numbers folder.old) (F.numbers folder.new) }
 {

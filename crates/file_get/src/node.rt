@@ -62,7 +62,7 @@ fn node_of(node: &[u8], version: u32) -> Option<Probe>
 /// Whether the version is in the set of the stored leaf that stands between two offsets. A leaf of
 /// eight intervals or fewer is read at once, and of more the version is looked for by halving.
 pub(crate) fn read_leaf<F: Folder>(
-    ask: Ask<'_>,
+    ask: &Ask<'_>,
     folder: &mut F,
     at: u64,
     limit: u64,
@@ -74,9 +74,9 @@ pub(crate) fn read_leaf<F: Folder>(
     ensures few { PullsAtMost (12 + 8 * searched ((limit - at - 12) / 8))
         (F.numbers folder.old) (F.numbers folder.new) }
     ensures told { (last : ℕ) (bytes : List ℕ) (s : List (ℕ × ℕ))
-        → NodeTold (F.files folder.old) ask.entry.name.now bytes last at limit s 0
+        → NodeTold (F.files folder.old) ask.now.name.now bytes last at limit s 0
         → limit ≡ at + length (stored s 0)
-        → Filled result (λ h. h ≡ has (members s) ask.entry.version) }
+        → Filled result (λ h. h ≡ has (members s) ask.now.version) }
 {
     let size = limit - at;
     if size > SHORT as u64 {
@@ -97,7 +97,7 @@ fn has_intervals(size: u64) -> bool
 
 // Whether the version is in the set of the stored leaf that so many bytes at an offset are.
 fn read_short_leaf<F: Folder>(
-    ask: Ask<'_>,
+    ask: &Ask<'_>,
     folder: &mut F,
     at: u64,
     size: usize,
@@ -107,9 +107,9 @@ fn read_short_leaf<F: Folder>(
     ensures reads { OnlyReads F.files F.draft F.faults folder.old folder.new (fault_of result) }
     ensures pulls { PullsAtMost size (F.numbers folder.old) (F.numbers folder.new) }
     ensures told { (last : ℕ) (bytes : List ℕ) (s : List (ℕ × ℕ))
-        → NodeTold (F.files folder.old) ask.entry.name.now bytes last at (at + size) s 0
+        → NodeTold (F.files folder.old) ask.now.name.now bytes last at (at + size) s 0
         → size ≡ length (stored s 0)
-        → Filled result (λ h. h ≡ has (members s) ask.entry.version) }
+        → Filled result (λ h. h ≡ has (members s) ask.now.version) }
 {
     let mut node = [0; SHORT];
     match fill_first(folder, ask.name, at, size, &mut node) {
@@ -123,7 +123,7 @@ fn read_short_leaf<F: Folder>(
 
 // The same of a leaf of any size. Its left part's size and its number of intervals are read first.
 fn read_long_leaf<F: Folder>(
-    ask: Ask<'_>,
+    ask: &Ask<'_>,
     folder: &mut F,
     at: u64,
     limit: u64,
@@ -135,9 +135,9 @@ fn read_long_leaf<F: Folder>(
     ensures few { PullsAtMost (12 + 8 * searched ((limit - at - 12) / 8))
         (F.numbers folder.old) (F.numbers folder.new) }
     ensures told { (last : ℕ) (bytes : List ℕ) (s : List (ℕ × ℕ))
-        → NodeTold (F.files folder.old) ask.entry.name.now bytes last at limit s 0
+        → NodeTold (F.files folder.old) ask.now.name.now bytes last at limit s 0
         → limit ≡ at + length (stored s 0)
-        → Filled result (λ h. h ≡ has (members s) ask.entry.version) }
+        → Filled result (λ h. h ≡ has (members s) ask.now.version) }
 {
     let left = match read_left(ask, folder, limit - 8) {
         Ok(left) => left,
@@ -162,12 +162,12 @@ fn is_leaf(left: u64, count: u32, size: u64) -> bool
 }
 
 // The byte size of a left part, which stands at an offset.
-fn read_left<F: Folder>(ask: Ask<'_>, folder: &mut F, at: u64) -> Result<u64, CursorFault>
+fn read_left<F: Folder>(ask: &Ask<'_>, folder: &mut F, at: u64) -> Result<u64, CursorFault>
     requires { at + 8 < 2 ^ 64 }
     ensures reads { OnlyReads F.files F.draft F.faults folder.old folder.new (fault_of result) }
     ensures pulls { PullsAtMost 8 (F.numbers folder.old) (F.numbers folder.new) }
     ensures told { (last left : ℕ) (bytes : List ℕ)
-        → TellsFront (F.files folder.old) ask.entry.name.now last bytes → at + 8 ≤ last
+        → TellsFront (F.files folder.old) ask.now.name.now last bytes → at + 8 ≤ last
         → StandsAt bytes at (u64_bytes left) → left < 2 ^ 64 → Filled result (λ n. n ≡ left) }
 {
     let mut left = [0; 8];
@@ -183,7 +183,7 @@ fn read_left<F: Folder>(ask: Ask<'_>, folder: &mut F, at: u64) -> Result<u64, Cu
 /// It reads twenty bytes, and then the rest of a node that has more; of one that has more than eight
 /// intervals the size of the left part, and those that halving asks for. It takes no memory.
 pub(crate) fn read_node<F: Folder>(
-    ask: Ask<'_>,
+    ask: &Ask<'_>,
     folder: &mut F,
     at: u64,
     limit: u64,
@@ -198,8 +198,8 @@ pub(crate) fn read_node<F: Folder>(
         (F.numbers folder.old) (F.numbers folder.new)) }
     ensures pulls { PullsAtMost (limit - at) (F.numbers folder.old) (F.numbers folder.new) }
     ensures told { (last left : ℕ) (bytes : List ℕ) (s : List (ℕ × ℕ))
-        → NodeTold (F.files folder.old) ask.entry.name.now bytes last at limit s left
-        → Filled result (λ probe. probe_view probe ≡ says ask.entry.version s left)
+        → NodeTold (F.files folder.old) ask.now.name.now bytes last at limit s left
+        → Filled result (λ probe. probe_view probe ≡ says ask.now.version s left)
         × PullsAtMost (inner_read (length s)) (F.numbers folder.old) (F.numbers folder.new) }
 {
     if limit - at < LEAST as u64 {
@@ -214,7 +214,7 @@ pub(crate) fn read_node<F: Folder>(
 
 // What the node says whose first twenty bytes stand at the front of the room for a short one.
 fn read_begun<F: Folder>(
-    ask: Ask<'_>,
+    ask: &Ask<'_>,
     folder: &mut F,
     at: u64,
     limit: u64,
@@ -231,9 +231,9 @@ fn read_begun<F: Folder>(
         (F.numbers folder.old) (F.numbers folder.new)) }
     ensures pulls { PullsAtMost (limit - at - 20) (F.numbers folder.old) (F.numbers folder.new) }
     ensures told { (last left : ℕ) (bytes : List ℕ) (s : List (ℕ × ℕ))
-        → NodeTold (F.files folder.old) ask.entry.name.now bytes last at limit s left
+        → NodeTold (F.files folder.old) ask.now.name.now bytes last at limit s left
         → take 20 node.old ≡ take 20 (drop at bytes)
-        → Filled result (λ probe. probe_view probe ≡ says ask.entry.version s left)
+        → Filled result (λ probe. probe_view probe ≡ says ask.now.version s left)
         × PullsAtMost (inner_read (length s) - 20)
         (F.numbers folder.old) (F.numbers folder.new) }
 {
@@ -246,7 +246,7 @@ fn read_begun<F: Folder>(
 
 // What the node of so many intervals says whose first twenty bytes stand at the front of the room.
 fn read_counted<F: Folder>(
-    ask: Ask<'_>,
+    ask: &Ask<'_>,
     folder: &mut F,
     at: u64,
     count: u32,
@@ -261,9 +261,9 @@ fn read_counted<F: Folder>(
     ensures few { PullsAtMost (8 + 8 * searched count)
         (F.numbers folder.old) (F.numbers folder.new) }
     ensures told { (last left : ℕ) (bytes : List ℕ) (s : List (ℕ × ℕ))
-        → NodeTold (F.files folder.old) ask.entry.name.now bytes last at (at + (12 + 8 * count))
+        → NodeTold (F.files folder.old) ask.now.name.now bytes last at (at + (12 + 8 * count))
         s left → count ≡ length s → take 20 node.old ≡ take 20 (drop at bytes)
-        → Filled result (λ probe. probe_view probe ≡ says ask.entry.version s left) }
+        → Filled result (λ probe. probe_view probe ≡ says ask.now.version s left) }
 {
     if count > FEW {
         return read_long(ask, folder, at, count);
@@ -273,7 +273,7 @@ fn read_counted<F: Folder>(
 
 // What the node says that has so many bytes as the room, at whose front the first twenty stand.
 fn read_short<F: Folder>(
-    ask: Ask<'_>,
+    ask: &Ask<'_>,
     folder: &mut F,
     at: u64,
     node: &mut [u8],
@@ -285,10 +285,10 @@ fn read_short<F: Folder>(
     ensures pulls { PullsAtMost (length node.old - 20)
         (F.numbers folder.old) (F.numbers folder.new) }
     ensures told { (last left : ℕ) (bytes : List ℕ) (s : List (ℕ × ℕ))
-        → NodeTold (F.files folder.old) ask.entry.name.now bytes last at (at + length node.old)
+        → NodeTold (F.files folder.old) ask.now.name.now bytes last at (at + length node.old)
         s left → length node.old ≡ length (stored s left)
         → take 20 node.old ≡ take 20 (drop at bytes)
-        → Filled result (λ probe. probe_view probe ≡ says ask.entry.version s left) }
+        → Filled result (λ probe. probe_view probe ≡ says ask.now.version s left) }
 {
     match fill_part(folder, ask.name, at + LEAST as u64, &mut node[LEAST..]) {
         Ok(()) => node_of(node, ask.version).ok_or(CursorFault::Damage),
@@ -298,7 +298,7 @@ fn read_short<F: Folder>(
 
 // What the node of more than eight intervals says that stands at an offset.
 fn read_long<F: Folder>(
-    ask: Ask<'_>,
+    ask: &Ask<'_>,
     folder: &mut F,
     at: u64,
     count: u32,
@@ -309,9 +309,9 @@ fn read_long<F: Folder>(
     ensures pulls { PullsAtMost (8 + 8 * searched count)
         (F.numbers folder.old) (F.numbers folder.new) }
     ensures told { (last left : ℕ) (bytes : List ℕ) (s : List (ℕ × ℕ))
-        → NodeTold (F.files folder.old) ask.entry.name.now bytes last at (at + (12 + 8 * count))
+        → NodeTold (F.files folder.old) ask.now.name.now bytes last at (at + (12 + 8 * count))
         s left → count ≡ length s
-        → Filled result (λ probe. probe_view probe ≡ says ask.entry.version s left) }
+        → Filled result (λ probe. probe_view probe ≡ says ask.now.version s left) }
 {
     let left = match read_left(ask, folder, at + 4 + 8 * count as u64) {
         Ok(left) => left,

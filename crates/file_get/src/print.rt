@@ -25,7 +25,7 @@ use xa_outside::{Folder, Sink};
 
 /// Prints the body of a leaf as the content of the element that was begun for it.
 pub(crate) fn print_leaf<F: Folder, K: Sink>(
-    ask: Ask<'_>,
+    ask: &Ask<'_>,
     child: Child,
     depth: u32,
     opening: &Opening<'_>,
@@ -37,7 +37,7 @@ pub(crate) fn print_leaf<F: Folder, K: Sink>(
     requires depth { depth ≤ DEEPEST }
     requires begun { IsBegun depth printer.old }
     ensures { (steps : ℕ) → opening.now.is_inner ≡ false
-        → InsidePrinted ask.entry.version ask.entry.name.now (child_view child) opening.now depth
+        → InsidePrinted ask.now.version ask.now.name.now (child_view child) opening.now depth
         (state F.files F.draft F.numbers F.faults K.taken K.faults
         folder.old sink.old printer.old steps)
         (state F.files F.draft F.numbers F.faults K.taken K.faults
@@ -67,7 +67,7 @@ fn print_content<K: Sink>(bytes: &[u8], printer: &mut Printer, sink: &mut K) -> 
 
 /// Prints a leaf that is named by an attribute. Behind an element it is damage, and outside of one.
 pub(crate) fn print_attribute<F: Folder, K: Sink>(
-    ask: Ask<'_>,
+    ask: &Ask<'_>,
     child: Child,
     place: Place,
     opening: &Opening<'_>,
@@ -79,7 +79,7 @@ pub(crate) fn print_attribute<F: Folder, K: Sink>(
     requires behind { opening.now.behind ≤ child.end }
     requires stands { StandsIn place.depth place.has_item printer.old }
     requires name { shown_name opening.now.name ≡ attr name.now }
-    ensures { (steps : ℕ) → OpenedPrinted ask.entry.version ask.entry.name.now
+    ensures { (steps : ℕ) → OpenedPrinted ask.now.version ask.now.name.now
         (child_view child) opening.now place.depth place.has_item
         (state F.files F.draft F.numbers F.faults K.taken K.faults
         folder.old sink.old printer.old steps)

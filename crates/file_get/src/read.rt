@@ -33,7 +33,7 @@ pub(crate) struct Opening<'a> {
 /// The record that opens a child, lent out of the bytes that are read. Memory is taken only for a
 /// record that ends within the child.
 pub(crate) fn read_opening<'a, F: Folder>(
-    ask: Ask<'_>,
+    ask: &Ask<'_>,
     folder: &mut F,
     child: Child,
     room: &'a mut Buffer,
@@ -45,7 +45,7 @@ pub(crate) fn read_opening<'a, F: Folder>(
     ensures pulls { PullsAtMost (child.end - child.first)
         (F.numbers folder.old) (F.numbers folder.new) }
     ensures told { (end : ℕ) (bytes more : List ℕ) (k : PlainNode)
-        → TellsFront (F.files folder.old) ask.entry.name.now end bytes → child.end ≤ end
+        → TellsFront (F.files folder.old) ask.now.name.now end bytes → child.end ≤ end
         → StandsAt bytes child.first (rec_bytes (opening_rec k) ++ more)
         → child.end ≡ child.first + length (rec_bytes (opening_rec k) ++ more)
         → IsRec (opening_rec k) → (is_inner k ≡ false → child.dir ≡ 0)

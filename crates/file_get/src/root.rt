@@ -17,7 +17,7 @@ use xa_outside::{Buffered, Folder, Sink, put_all};
 /// Writes the text of a version of the archive in the first `size` bytes of a file, whose header
 /// has so many, and a line feed.
 pub(crate) fn put_version<F: Folder, O: Sink, L: Ledger>(
-    ask: Ask<'_>,
+    ask: &Ask<'_>,
     first: u64,
     size: u64,
     folder: &mut F,
@@ -25,7 +25,7 @@ pub(crate) fn put_version<F: Folder, O: Sink, L: Ledger>(
     steps: &mut Steps<L>,
 ) -> Result<(), GetFault>
     requires { first ≤ size }
-    ensures { TextPut ask.entry.version ask.entry.name.now size first
+    ensures { TextPut ask.now.version ask.now.name.now size first
         (state F.files F.draft F.numbers F.faults O.taken O.faults
         folder.old out.old fresh steps.old)
         (state F.files F.draft F.numbers F.faults O.taken O.faults
@@ -38,7 +38,7 @@ pub(crate) fn put_version<F: Folder, O: Sink, L: Ledger>(
 }
 
 fn put_text<F: Folder, K: Sink, L: Ledger>(
-    ask: Ask<'_>,
+    ask: &Ask<'_>,
     first: u64,
     size: u64,
     folder: &mut F,
@@ -46,7 +46,7 @@ fn put_text<F: Folder, K: Sink, L: Ledger>(
     steps: &mut Steps<L>,
 ) -> Result<(), GetFault>
     requires { first ≤ size }
-    ensures { TextPut ask.entry.version ask.entry.name.now size first
+    ensures { TextPut ask.now.version ask.now.name.now size first
         (state F.files F.draft F.numbers F.faults K.taken K.faults
         folder.old sink.old fresh steps.old)
         (state F.files F.draft F.numbers F.faults K.taken K.faults
@@ -61,7 +61,7 @@ fn put_text<F: Folder, K: Sink, L: Ledger>(
 // Prints what the version has at the virtual root, which is one element.
 #[tactic(auto, using(crate::proofs::Roots::fresh_stands))]
 fn print_root<F: Folder, K: Sink, L: Ledger>(
-    ask: Ask<'_>,
+    ask: &Ask<'_>,
     first: u64,
     size: u64,
     folder: &mut F,
@@ -71,7 +71,7 @@ fn print_root<F: Folder, K: Sink, L: Ledger>(
 ) -> Result<(), GetFault>
     requires size { first ≤ size }
     requires fresh { printer.old ≡ fresh }
-    ensures { RootPrinted ask.entry.version ask.entry.name.now size first
+    ensures { RootPrinted ask.now.version ask.now.name.now size first
         (state F.files F.draft F.numbers F.faults K.taken K.faults
         folder.old sink.old printer.old steps.old)
         (state F.files F.draft F.numbers F.faults K.taken K.faults

@@ -28,7 +28,7 @@ const SHORT: usize = 64;
 /// Of more than eight the one in the middle is read, and then those of the half where the version
 /// would be. It takes no memory.
 pub(crate) fn search_pairs<F: Folder>(
-    ask: Ask<'_>,
+    ask: &Ask<'_>,
     folder: &mut F,
     at: u64,
     count: u32,
@@ -37,9 +37,9 @@ pub(crate) fn search_pairs<F: Folder>(
     ensures reads { OnlyReads F.files F.draft F.faults folder.old folder.new (fault_of result) }
     ensures pulls { PullsAtMost (8 * searched count) (F.numbers folder.old) (F.numbers folder.new) }
     ensures told { (last : ℕ) (bytes : List ℕ) (s : List (ℕ × ℕ))
-        → TellsFront (F.files folder.old) ask.entry.name.now last bytes → at + 8 * count ≤ last
+        → TellsFront (F.files folder.old) ask.now.name.now last bytes → at + 8 * count ≤ last
         → StandsAt bytes at (flat_map pair_bytes s) → count ≡ length s → IsSet s
-        → Filled result (λ h. h ≡ has (members s) ask.entry.version) }
+        → Filled result (λ h. h ≡ has (members s) ask.now.version) }
 {
     if count <= FEW {
         return read_few(ask, folder, at, count);
@@ -62,7 +62,7 @@ pub(crate) fn search_pairs<F: Folder>(
 
 // Whether the version is in the set of eight intervals or fewer that stand at an offset.
 fn read_few<F: Folder>(
-    ask: Ask<'_>,
+    ask: &Ask<'_>,
     folder: &mut F,
     at: u64,
     count: u32,
@@ -72,9 +72,9 @@ fn read_few<F: Folder>(
     ensures reads { OnlyReads F.files F.draft F.faults folder.old folder.new (fault_of result) }
     ensures pulls { PullsAtMost (8 * count) (F.numbers folder.old) (F.numbers folder.new) }
     ensures told { (last : ℕ) (bytes : List ℕ) (s : List (ℕ × ℕ))
-        → TellsFront (F.files folder.old) ask.entry.name.now last bytes → at + 8 * count ≤ last
+        → TellsFront (F.files folder.old) ask.now.name.now last bytes → at + 8 * count ≤ last
         → StandsAt bytes at (flat_map pair_bytes s) → count ≡ length s → IsSet s
-        → Filled result (λ h. h ≡ has (members s) ask.entry.version) }
+        → Filled result (λ h. h ≡ has (members s) ask.now.version) }
 {
     let mut room = [0; SHORT];
     let size = 8 * count as usize;
@@ -85,12 +85,12 @@ fn read_few<F: Folder>(
 }
 
 // The interval at an offset.
-fn read_pair<F: Folder>(ask: Ask<'_>, folder: &mut F, at: u64) -> Result<(u32, u32), CursorFault>
+fn read_pair<F: Folder>(ask: &Ask<'_>, folder: &mut F, at: u64) -> Result<(u32, u32), CursorFault>
     requires { at + 8 < 2 ^ 64 }
     ensures reads { OnlyReads F.files F.draft F.faults folder.old folder.new (fault_of result) }
     ensures pulls { PullsAtMost 8 (F.numbers folder.old) (F.numbers folder.new) }
     ensures told { (last : ℕ) (bytes : List ℕ) (p : ℕ × ℕ)
-        → TellsFront (F.files folder.old) ask.entry.name.now last bytes → at + 8 ≤ last
+        → TellsFront (F.files folder.old) ask.now.name.now last bytes → at + 8 ≤ last
         → StandsAt bytes at (pair_bytes p) → 1 ≤ p.0 → p.0 ≤ p.1 → p.1 ≤ most
         → Filled result (λ q. q ≡ p) }
 {

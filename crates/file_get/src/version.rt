@@ -130,5 +130,5 @@ fn write_version<F: Folder, O: Sink, L: Ledger>(
         judge_missing(folder, ask.name, fixed.first, size)?;
         return Err(GetFault::NoVersion { n: fixed.versions });
     }
-    put_version(ask, fixed.first, size, folder, out, steps)
+    put_version(&ask, fixed.first, size, folder, out, steps)
 }

@@ -4,7 +4,7 @@ ghost use Rattle.file_rows.specs.View.{row_view, child_view};
 ghost use Rattle.file_get.specs.Told.{fault_of};
 ghost use Rattle.file_get.specs.State.{state};
 ghost use Rattle.file_get.specs.Walks.{IsBegun, StandsIn};
-ghost use Rattle.file_get.specs.Visits.{Visited};
+ghost use Rattle.file_get.specs.Visits.{Visited, arrived};
 ghost use Rattle.file_get.specs.Printed.{RowPrinted, ChildPrinted, NodePrinted};
 ghost use Rattle.file_get.specs.Inside.{InsidePrinted, OpenedPrinted};
 ghost use Rattle.keyed_tree.specs.Data.{tag};
@@ -28,7 +28,7 @@ use xa_outside::{Folder, Sink};
 /// them.
 #[cycle(walk)]
 pub(crate) fn print_row<F: Folder, K: Sink, L: Ledger>(
-    ask: Ask<'_>,
+    ask: &Ask<'_>,
     row: Row,
     depth: u32,
     folder: &mut F,
@@ -38,7 +38,7 @@ pub(crate) fn print_row<F: Folder, K: Sink, L: Ledger>(
 ) -> Result<bool, GetFault>
     requires depth { depth ≤ DEEPEST }
     requires stands { StandsIn depth false printer.old }
-    ensures { RowPrinted ask.entry.version ask.entry.name.now (row_view row) depth
+    ensures { RowPrinted ask.now.version ask.now.name.now (row_view row) depth
         (state F.files F.draft F.numbers F.faults K.taken K.faults
         folder.old sink.old printer.old steps.old)
         (state F.files F.draft F.numbers F.faults K.taken K.faults
@@ -49,46 +49,48 @@ pub(crate) fn print_row<F: Folder, K: Sink, L: Ledger>(
         return Ok(false);
     }
     let span = whole_of(row, count);
-    let place = Place {
+    let mut place = Place {
         depth,
         after: row.first,
         has_item: false,
     };
-    let place = visit(ask, row, span, place, folder, printer, sink, steps)?;
+    visit(
+        ask, &row, span, &mut place, folder, printer, sink, steps,
+    )?;
     Ok(place.has_item)
 }
 
 // Searches a part of a row, and prints those of its children that the version has.
 #[cycle(walk)]
 fn visit<F: Folder, K: Sink, L: Ledger>(
-    ask: Ask<'_>,
-    row: Row,
+    ask: &Ask<'_>,
+    row: &Row,
     span: Span,
-    place: Place,
+    place: &mut Place,
     folder: &mut F,
     printer: &mut Printer,
     sink: &mut K,
     steps: &mut Steps<L>,
-) -> Result<Place, GetFault>
+) -> Result<(), GetFault>
     requires ordered { span.at ≤ span.limit }
     requires short { span.limit < 2 ^ 64 }
     requires some { 1 ≤ span.count }
     requires few { span.position + span.count < 2 ^ 32 }
-    requires fits { 4 + 24 * (span.position + span.count) ≤ row.dir }
-    requires after { place.after ≤ row.end }
-    requires depth { place.depth ≤ DEEPEST }
-    requires stands { StandsIn place.depth place.has_item printer.old }
-    ensures { Visited ask.entry.version ask.entry.name.now (row_view row) span place
+    requires fits { 4 + 24 * (span.position + span.count) ≤ row.now.dir }
+    requires after { place.old.after ≤ row.now.end }
+    requires depth { place.old.depth ≤ DEEPEST }
+    requires stands { StandsIn place.old.depth place.old.has_item printer.old }
+    ensures { Visited ask.now.version ask.now.name.now (row_view row.now) span place.old
         (state F.files F.draft F.numbers F.faults K.taken K.faults
         folder.old sink.old printer.old steps.old)
         (state F.files F.draft F.numbers F.faults K.taken K.faults
-        folder.new sink.new printer.new steps.new) result }
+        folder.new sink.new printer.new steps.new) (arrived place.new result) }
 {
     match look(ask, folder, steps, span)? {
-        Sight::Lacks => Ok(place),
+        Sight::Lacks => Ok(()),
         Sight::Child => print_child(ask, row, span, place, folder, printer, sink, steps),
         Sight::Parts { left, right } => {
-            let place = visit(ask, row, left, place, folder, printer, sink, steps)?;
+            visit(ask, row, left, place, folder, printer, sink, steps)?;
             visit(ask, row, right, place, folder, printer, sink, steps)
         }
     }
@@ -97,38 +99,36 @@ fn visit<F: Folder, K: Sink, L: Ledger>(
 // Prints the only child of a part of a row, which has the version.
 #[cycle(walk)]
 fn print_child<F: Folder, K: Sink, L: Ledger>(
-    ask: Ask<'_>,
-    row: Row,
+    ask: &Ask<'_>,
+    row: &Row,
     span: Span,
-    place: Place,
+    place: &mut Place,
     folder: &mut F,
     printer: &mut Printer,
     sink: &mut K,
     steps: &mut Steps<L>,
-) -> Result<Place, GetFault>
-    requires fits { 4 + 24 * (span.position + 1) ≤ row.dir }
-    requires after { place.after ≤ row.end }
-    requires depth { place.depth ≤ DEEPEST }
-    requires stands { StandsIn place.depth place.has_item printer.old }
-    ensures { ChildPrinted ask.entry.version ask.entry.name.now (row_view row) span place
+) -> Result<(), GetFault>
+    requires fits { 4 + 24 * (span.position + 1) ≤ row.now.dir }
+    requires after { place.old.after ≤ row.now.end }
+    requires depth { place.old.depth ≤ DEEPEST }
+    requires stands { StandsIn place.old.depth place.old.has_item printer.old }
+    ensures { ChildPrinted ask.now.version ask.now.name.now (row_view row.now) span place.old
         (state F.files F.draft F.numbers F.faults K.taken K.faults
         folder.old sink.old printer.old steps.old)
         (state F.files F.draft F.numbers F.faults K.taken K.faults
-        folder.new sink.new printer.new steps.new) result }
+        folder.new sink.new printer.new steps.new) (arrived place.new result) }
 {
-    let child = read_child(folder, ask.name, row, span.position, place.after, row.end)?;
-    let has_item = print_node(ask, child, place, folder, printer, sink, steps)?;
-    Ok(Place {
-        depth: place.depth,
-        after: child.end,
-        has_item,
-    })
+    let child = read_child(folder, ask.name, *row, span.position, place.after, row.end)?;
+    let has_item = print_node(ask, child, *place, folder, printer, sink, steps)?;
+    place.after = child.end;
+    place.has_item = has_item;
+    Ok(())
 }
 
 // Prints a node, and answers whether an element stands there now.
 #[cycle(walk)]
 fn print_node<F: Folder, K: Sink, L: Ledger>(
-    ask: Ask<'_>,
+    ask: &Ask<'_>,
     child: Child,
     place: Place,
     folder: &mut F,
@@ -138,7 +138,7 @@ fn print_node<F: Folder, K: Sink, L: Ledger>(
 ) -> Result<bool, GetFault>
     requires depth { place.depth ≤ DEEPEST }
     requires stands { StandsIn place.depth place.has_item printer.old }
-    ensures { NodePrinted ask.entry.version ask.entry.name.now (child_view child)
+    ensures { NodePrinted ask.now.version ask.now.name.now (child_view child)
         place.depth place.has_item
         (state F.files F.draft F.numbers F.faults K.taken K.faults
         folder.old sink.old printer.old steps.old)
@@ -162,7 +162,7 @@ fn print_node<F: Folder, K: Sink, L: Ledger>(
 // Prints a node that is named by this tag.
 #[cycle(walk)]
 fn print_element<F: Folder, K: Sink, L: Ledger>(
-    ask: Ask<'_>,
+    ask: &Ask<'_>,
     child: Child,
     place: Place,
     opening: &Opening<'_>,
@@ -176,7 +176,7 @@ fn print_element<F: Folder, K: Sink, L: Ledger>(
     requires depth { place.depth ≤ DEEPEST }
     requires stands { StandsIn place.depth place.has_item printer.old }
     requires name { shown_name opening.now.name ≡ tag text.now }
-    ensures { OpenedPrinted ask.entry.version ask.entry.name.now (child_view child) opening.now
+    ensures { OpenedPrinted ask.now.version ask.now.name.now (child_view child) opening.now
         place.depth place.has_item
         (state F.files F.draft F.numbers F.faults K.taken K.faults
         folder.old sink.old printer.old steps.old)
@@ -204,7 +204,7 @@ fn print_element<F: Folder, K: Sink, L: Ledger>(
 // Prints what stands behind the opening record of a node that was begun.
 #[cycle(walk)]
 fn print_inside<F: Folder, K: Sink, L: Ledger>(
-    ask: Ask<'_>,
+    ask: &Ask<'_>,
     child: Child,
     depth: u32,
     opening: &Opening<'_>,
@@ -216,7 +216,7 @@ fn print_inside<F: Folder, K: Sink, L: Ledger>(
     requires behind { opening.now.behind ≤ child.end }
     requires depth { depth ≤ DEEPEST }
     requires begun { IsBegun depth printer.old }
-    ensures { InsidePrinted ask.entry.version ask.entry.name.now (child_view child)
+    ensures { InsidePrinted ask.now.version ask.now.name.now (child_view child)
         opening.now depth
         (state F.files F.draft F.numbers F.faults K.taken K.faults
         folder.old sink.old printer.old steps.old)

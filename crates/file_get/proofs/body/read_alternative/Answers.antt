@@ -16,7 +16,7 @@ returns-then-not-is_stored-clause-told g c = λ last bytes more set x tells with
     let n = g.F.Folder.numbers in
     let f = c.in-Ok.ensures in
     let h = f.told last bytes more x tells within stands ends is in (
-      alt-inherits a.ask.version a.at c.in-Ok.head.0 set x h.0 (sym c.if-not-is_stored.true ∙ h.1) has,
+      alt-inherits a.ask.now.version a.at c.in-Ok.head.0 set x h.0 (sym c.if-not-is_stored.true ∙ h.1) has,
       PullsAtMost-more 10 (stamp_read x.stamp) (n a.folder.now) (n c.read_head.new.folder) (omega (arith, stamp-begun x.stamp)) f.pulls,
     ))
 
@@ -28,9 +28,9 @@ returns-in-Ok-read_set-clause-told g c = λ last bytes more set x tells within s
     let read = f.reads in
     let b = c.in-Ok-read_set in
     let h = f.told last bytes more x tells within stands ends is in
-    let got = stored-set a.ask.version (g.F.Folder.files a.folder.now) (g.F.Folder.files c.read_head.new.folder) a.ask.name.now bytes last a.at c.in-Ok.head.0 set x.stamp (n a.folder.now) (n c.read_head.new.folder) (n c.read_set.new.folder) (Ok (b.has, b.body))
+    let got = stored-set a.ask.now.version (g.F.Folder.files a.folder.now) (g.F.Folder.files c.read_head.new.folder) a.ask.now.name.now bytes last a.at c.in-Ok.head.0 set x.stamp (n a.folder.now) (n c.read_head.new.folder) (n c.read_set.new.folder) (Ok (b.has, b.body))
     read.same_files tells (omega (arith, f.within, within)) (stamp-stands bytes a.at x more stands) (omega (arith, h.0, alt-length x)) (alt-parts x is).0 (sym c.if-not-is_stored.false ∙ h.1) f.pulls b.ensures.told in
-    (alt-is a.ask.version a.at c.in-Ok.head.0 set x (b.has, b.body) h.0 got.0, got.1))
+    (alt-is a.ask.now.version a.at c.in-Ok.head.0 set x (b.has, b.body) h.0 got.0, got.1))
 
 pub returns-in-Err-read_set-clause-told : goal.returns-in-Err-read_set-clause-told
 returns-in-Err-read_set-clause-told g c = λ last bytes more set x tells within stands ends is has. (
@@ -40,7 +40,7 @@ returns-in-Err-read_set-clause-told g c = λ last bytes more set x tells within 
     let read = f.reads in
     let b = c.in-Err-read_set in
     let h = f.told last bytes more x tells within stands ends is in
-    stored-set a.ask.version (g.F.Folder.files a.folder.now) (g.F.Folder.files c.read_head.new.folder) a.ask.name.now bytes last a.at c.in-Ok.head.0 set x.stamp (n a.folder.now) (n c.read_head.new.folder) (n c.read_set.new.folder) (Err b.fault)
+    stored-set a.ask.now.version (g.F.Folder.files a.folder.now) (g.F.Folder.files c.read_head.new.folder) a.ask.now.name.now bytes last a.at c.in-Ok.head.0 set x.stamp (n a.folder.now) (n c.read_head.new.folder) (n c.read_set.new.folder) (Err b.fault)
     read.same_files tells (omega (arith, f.within, within)) (stamp-stands bytes a.at x more stands) (omega (arith, h.0, alt-length x)) (alt-parts x is).0 (sym c.if-not-is_stored.false ∙ h.1) f.pulls b.ensures.told)
 
 pub returns-in-Ok-read_set-clause-pulls : goal.returns-in-Ok-read_set-clause-pulls

@@ -16,7 +16,7 @@ loop-alternative-init g c =
       onward = omega arith;
       reads = search rules;
       pulls = PullsAtMost-none _ n (g.met.F.Folder.metered a.folder.now);
-      told = λ last bytes more set xs h. starts a.ask.version f a.ask.name.now bytes last a.at a.end set xs more n n n h (g.met.F.Folder.metered a.folder.now);
+      told = λ last bytes more set xs h. starts a.ask.now.version f a.ask.now.name.now bytes last a.at a.end set xs more n n n h (g.met.F.Folder.metered a.folder.now);
     }
 
 pub loop-alternative-preserved : goal.loop-alternative-preserved
@@ -35,7 +35,7 @@ loop-alternative-preserved g c =
       reads = search rules;
       pulls = PullsAtMost-more ((l.at - a.at) + (f.body - l.at)) (f.end - a.at) (n a.folder.now) (n c.read_alternative.new.folder) (omega (arith, inv.onward, w.0, w.1))
           (PullsAtMost-trans (l.at - a.at) (f.body - l.at) (n a.folder.now) (n l.folder) (n c.read_alternative.new.folder) inv.pulls read.most);
-      told = λ last bytes more set xs h. passes a.ask.version (g.F.Folder.files l.folder) a.ask.name.now bytes last l.at a.end set xs more (n a.folder.now) (n l.folder) (n c.read_alternative.new.folder)
+      told = λ last bytes more set xs h. passes a.ask.now.version (g.F.Folder.files l.folder) a.ask.now.name.now bytes last l.at a.end set xs more (n a.folder.now) (n l.folder) (n c.read_alternative.new.folder)
           f (g.F.Folder.files c.read_alternative.new.folder) only.same_files (inv.told last bytes more set xs h) read.told c.if-alternative.false;
     }
 
@@ -54,7 +54,7 @@ returns-in-Err-clause-told g c = λ last bytes more set xs h. (
     let a = c.args in
     let l = c.loop-alternative in
     let n = g.F.Folder.numbers in
-    fails a.ask.version (g.F.Folder.files l.folder) a.ask.name.now bytes last l.at a.end set xs more (n a.folder.now) (n l.folder) (n c.read_alternative.new.folder) c.in-Err.fault (l.invariant.told last bytes more set xs h) c.in-Err.ensures.told)
+    fails a.ask.now.version (g.F.Folder.files l.folder) a.ask.now.name.now bytes last l.at a.end set xs more (n a.folder.now) (n l.folder) (n c.read_alternative.new.folder) c.in-Err.fault (l.invariant.told last bytes more set xs h) c.in-Err.ensures.told)
 
 pub returns-then-alternative-clause-pulls : goal.returns-then-alternative-clause-pulls
 returns-then-alternative-clause-pulls g c =
@@ -79,5 +79,5 @@ returns-then-alternative-clause-told g c = λ last bytes more set xs h. (
     let f = c.in-Ok.alternative in
     let w = read.within in
     let only = read.reads in
-    found a.ask.version (g.F.Folder.files l.folder) a.ask.name.now bytes last l.at a.end set xs more (n a.folder.now) (n l.folder) (n c.read_alternative.new.folder)
+    found a.ask.now.version (g.F.Folder.files l.folder) a.ask.now.name.now bytes last l.at a.end set xs more (n a.folder.now) (n l.folder) (n c.read_alternative.new.folder)
     f (g.F.Folder.files c.read_alternative.new.folder) (n c.read_value.new.folder) (λ (b : PlainKey). Filled c.read_value.result (λ v. body_view v ≡ Some b)) only.same_files (l.invariant.told last bytes more set xs h) read.told c.if-alternative.true w.2 c.read_value.ensures.told c.read_value.ensures.pulls)

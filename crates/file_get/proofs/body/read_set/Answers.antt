@@ -22,7 +22,7 @@ returns-in-Ok-search_pairs-clause-told g c = λ last bytes s tells within stands
     let count = c.in-Ok.count in
     let size = f.told last bytes s tells within stands fits is in
     let read = f.reads in (
-      set-is a.ask.version a.at count s c.in-Ok-search_pairs.has size (b.told last bytes s (subst (λ z. TellsFront z a.ask.name.now last bytes) (sym read.same_files) tells) (omega (arith, f.within, within)) (pairs-stand bytes a.at s stands) size is),
+      set-is a.ask.now.version a.at count s c.in-Ok-search_pairs.has size (b.told last bytes s (subst (λ z. TellsFront z a.ask.now.name.now last bytes) (sym read.same_files) tells) (omega (arith, f.within, within)) (pairs-stand bytes a.at s stands) size is),
       subst (λ (k : ℕ). PullsAtMost (4 + 8 * searched k) (n a.folder.now) (n c.search_pairs.new.folder)) size (PullsAtMost-trans 4 (8 * searched count) (n a.folder.now) (n c.read_count.new.folder) (n c.search_pairs.new.folder) f.pulls b.pulls),
     ))
 
@@ -35,7 +35,7 @@ returns-in-Err-search_pairs-clause-told g c = λ last bytes s tells within stand
     let count = c.in-Ok.count in
     let size = f.told last bytes s tells within stands fits is in
     let read = f.reads in (
-      b.told last bytes s (subst (λ z. TellsFront z a.ask.name.now last bytes) (sym read.same_files) tells) (omega (arith, f.within, within)) (pairs-stand bytes a.at s stands) size is,
+      b.told last bytes s (subst (λ z. TellsFront z a.ask.now.name.now last bytes) (sym read.same_files) tells) (omega (arith, f.within, within)) (pairs-stand bytes a.at s stands) size is,
       subst (λ (k : ℕ). PullsAtMost (4 + 8 * searched k) (n a.folder.now) (n c.search_pairs.new.folder)) size (PullsAtMost-trans 4 (8 * searched count) (n a.folder.now) (n c.read_count.new.folder) (n c.search_pairs.new.folder) f.pulls b.pulls),
     ))
 

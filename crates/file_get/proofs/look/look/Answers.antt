@@ -13,9 +13,9 @@ returns-in-Ok-clause-told g c = λ bytes end row parent front ks behind x. (
     let t = tree_over parent ks in
     let count = x.part.count in
     let many : 1 < length ks = omega (arith, count, c.requires.some, c.if-span-eq1.false) in
-    let there = node-told (f.files a.folder.now) a.ask.name.now bytes end row a.span parent front ks behind c.requires.short x in
+    let there = node-told (f.files a.folder.now) a.ask.now.name.now bytes end row a.span parent front ks behind c.requires.short x in
     let read = n.ensures.told end (left_bytes t) bytes (top t) there in (
-      c.judge.ensures.told a.ask.version bytes row parent front ks behind x.part x.sets (node-of a.ask.version parent ks n.probe read.0),
+      c.judge.ensures.told a.ask.now.version bytes row parent front ks behind x.part x.sets (node-of a.ask.now.version parent ks n.probe read.0),
       subst (λ (m : ℕ). PullsAtMost m (f.numbers a.folder.now) (f.numbers c.read_node.new.folder)) (sym (own-inner parent ks many x.sets)) read.1,
     ))
 
@@ -26,6 +26,6 @@ returns-in-Err-clause-told g c = λ bytes end row parent front ks behind x. (
     let t = tree_over parent ks in
     let count = x.part.count in
     let many : 1 < length ks = omega (arith, count, c.requires.some, c.if-span-eq1.false) in
-    let there = node-told (f.files a.folder.now) a.ask.name.now bytes end row a.span parent front ks behind c.requires.short x in
+    let there = node-told (f.files a.folder.now) a.ask.now.name.now bytes end row a.span parent front ks behind c.requires.short x in
     let read = c.in-Err.ensures.told end (left_bytes t) bytes (top t) there in
     (read.0, subst (λ (m : ℕ). PullsAtMost m (f.numbers a.folder.now) (f.numbers c.read_node.new.folder)) (sym (own-inner parent ks many x.sets)) read.1))

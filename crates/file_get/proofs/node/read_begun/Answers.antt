@@ -25,7 +25,7 @@ returns-in-Some-clause-told g c = λ last left bytes s x front. (
     let size = length-stored s left in
     let count = c.in-Some.count in
     let same = some_is count (length s) (c.in-Some.ensures.told (length s) (set-few s x.set) (omega (arith, fits, size)) (front-count a.node.now bytes a.at left s front x.stands)) in (
-      c.read_counted.ensures.told last left bytes s (told-whole (g.F.Folder.files a.folder.now) a.ask.name.now bytes last a.at a.limit count s left same x) same front,
+      c.read_counted.ensures.told last left bytes s (told-whole (g.F.Folder.files a.folder.now) a.ask.now.name.now bytes last a.at a.limit count s left same x) same front,
       subst (λ (k : ℕ). PullsAtMost (inner_read k - 20) (n a.folder.now) (n c.read_counted.new.folder)) same (rest-pulls count (n a.folder.now) (n c.read_counted.new.folder) c.read_counted.ensures.pulls c.read_counted.ensures.few),
     ))
 

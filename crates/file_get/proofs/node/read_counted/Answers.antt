@@ -33,5 +33,5 @@ returns-clause-told g c = λ last left bytes s x count front. (
     let m = 12 + 8 * a.count in
     let stored = length-stored s left in
     let size : m ≡ length (take m a.node.now) = omega (arith, length-take m a.node.now, c.requires.node, c.if-count-gt-FEW.false) in
-    c.read_short.ensures.told last left bytes s (subst (λ (k : ℕ). NodeTold (g.F.Folder.files a.folder.now) a.ask.name.now bytes last a.at (a.at + k) s left) size x) (omega (arith, size, count, stored))
+    c.read_short.ensures.told last left bytes s (subst (λ (k : ℕ). NodeTold (g.F.Folder.files a.folder.now) a.ask.now.name.now bytes last a.at (a.at + k) s left) size x) (omega (arith, size, count, stored))
     (take-take 20 m a.node.now (omega (arith, c.requires.some)) ∙ front))

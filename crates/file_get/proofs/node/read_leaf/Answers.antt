@@ -17,7 +17,7 @@ pub returns-then-has_intervals-clause-told : goal.returns-then-has_intervals-cla
 returns-then-has_intervals-clause-told g c = λ last bytes s x ends. (
     let a = c.args in
     let place : a.limit ≡ a.at + (a.limit - a.at) = omega (arith, c.requires.ordered) in
-    c.read_short_leaf.ensures.told last bytes s (subst (λ (k : ℕ). NodeTold (g.F.Folder.files a.folder.now) a.ask.name.now bytes last a.at k s 0) place x) (omega (arith, ends)))
+    c.read_short_leaf.ensures.told last bytes s (subst (λ (k : ℕ). NodeTold (g.F.Folder.files a.folder.now) a.ask.now.name.now bytes last a.at k s 0) place x) (omega (arith, ends)))
 
 pub returns-clause-told : goal.returns-clause-told
 returns-clause-told g c = λ last bytes s x ends. (

@@ -26,7 +26,7 @@ returns-in-Ok-search_pairs-clause-told g c = λ last left bytes s x count. (
     let size = length-stored s left in
     let own : 12 + 8 * a.count ≡ length (stored s left) = omega (arith, count, size) in
     let behind = c.in-Ok.ensures.told last left bytes x.tells (omega (arith, within)) (left-stands bytes a.at (a.at + 4 + 8 * a.count) left s (omega (arith, count)) x.stands) x.short in
-    let on = subst (λ (f : Option Files). TellsFront f a.ask.name.now last bytes) (sym c.in-Ok.ensures.reads.same_files) x.tells in
+    let on = subst (λ (f : Option Files). TellsFront f a.ask.now.name.now last bytes) (sym c.in-Ok.ensures.reads.same_files) x.tells in
     let has = c.in-Ok-search_pairs.ensures.told last bytes s on (omega (arith, within)) (pairs-stand bytes a.at s (set-stands bytes a.at left s x.stands)) count x.set in
     λ i. (has i, behind i, own i))
 
@@ -39,5 +39,5 @@ pub returns-in-Err-search_pairs-clause-told : goal.returns-in-Err-search_pairs-c
 returns-in-Err-search_pairs-clause-told g c = λ last left bytes s x count. (
     let a = c.args in
     let within = x.within in
-    let on = subst (λ (f : Option Files). TellsFront f a.ask.name.now last bytes) (sym c.in-Ok.ensures.reads.same_files) x.tells in
+    let on = subst (λ (f : Option Files). TellsFront f a.ask.now.name.now last bytes) (sym c.in-Ok.ensures.reads.same_files) x.tells in
     c.in-Err-search_pairs.ensures.told last bytes s on (omega (arith, within)) (pairs-stand bytes a.at s (set-stands bytes a.at left s x.stands)) count x.set)

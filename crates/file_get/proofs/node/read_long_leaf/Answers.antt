@@ -44,8 +44,8 @@ returns-then-is_leaf-clause-told g c = λ last bytes s x ends. (
     let size = length-stored s 0 in
     let set = length-set_bytes s in
     let within = x.within in
-    let on = subst (λ (f : Option Files). TellsFront f a.ask.name.now last bytes) (sym c.in-Ok.ensures.reads.same_files) x.tells in
-    let later = subst (λ (f : Option Files). TellsFront f a.ask.name.now last bytes) (sym c.in-Ok-read_count.ensures.reads.same_files) on in
+    let on = subst (λ (f : Option Files). TellsFront f a.ask.now.name.now last bytes) (sym c.in-Ok.ensures.reads.same_files) x.tells in
+    let later = subst (λ (f : Option Files). TellsFront f a.ask.now.name.now last bytes) (sym c.in-Ok-read_count.ensures.reads.same_files) on in
     let stands = set-stands bytes a.at 0 s x.stands in
     let count = c.in-Ok-read_count.ensures.told last bytes s on (omega (arith, within)) stands (omega (arith, ends, size, set)) x.set in
     c.search_pairs.ensures.told last bytes s later (omega (arith, within, c.in-Ok-read_count.ensures.within, c.requires.room)) (pairs-stand bytes a.at s stands) count x.set)
@@ -70,7 +70,7 @@ returns-else-is_leaf-clause-told g c = λ last bytes s x ends. (
     let size = length-stored s 0 in
     let set = length-set_bytes s in
     let within = x.within in
-    let on = subst (λ (f : Option Files). TellsFront f a.ask.name.now last bytes) (sym c.in-Ok.ensures.reads.same_files) x.tells in
+    let on = subst (λ (f : Option Files). TellsFront f a.ask.now.name.now last bytes) (sym c.in-Ok.ensures.reads.same_files) x.tells in
     let count = c.in-Ok-read_count.ensures.told last bytes s on (omega (arith, within)) (set-stands bytes a.at 0 s x.stands) (omega (arith, ends, size, set)) x.set in
     let none = c.in-Ok.ensures.told last 0 bytes x.tells (omega (arith, within, c.requires.room)) (left-stands bytes a.at (a.limit - 8) 0 s (omega (arith, ends, size)) x.stands) x.short in
     leaf-not c.in-Ok.left c.in-Ok-read_count.count (a.limit - a.at) (sym c.is_leaf.ensures ∙ c.if-is_leaf.false) none (omega (arith, count, ends, size)))
@@ -95,5 +95,5 @@ returns-in-Err-read_count-clause-told g c = λ last bytes s x ends. (
     let size = length-stored s 0 in
     let set = length-set_bytes s in
     let within = x.within in
-    let on = subst (λ (f : Option Files). TellsFront f a.ask.name.now last bytes) (sym c.in-Ok.ensures.reads.same_files) x.tells in
+    let on = subst (λ (f : Option Files). TellsFront f a.ask.now.name.now last bytes) (sym c.in-Ok.ensures.reads.same_files) x.tells in
     c.in-Err-read_count.ensures.told last bytes s on (omega (arith, within)) (set-stands bytes a.at 0 s x.stands) (omega (arith, ends, size, set)) x.set)

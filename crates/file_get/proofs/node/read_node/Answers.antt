@@ -39,7 +39,7 @@ returns-in-Ok-clause-told g c = λ last left bytes s x. (
     let begun = twenty-read (length s) some in
     let front = c.in-Ok.ensures.told last bytes x.tells (omega (arith, fits, some, within, size)) in
     let read = c.in-Ok.ensures.reads in
-    let got = c.read_begun.ensures.told last left bytes s (told-later (g.F.Folder.files a.folder.now) (g.F.Folder.files c.fill_first.new.folder) a.ask.name.now bytes last a.at a.limit s left read.same_files x) front in (
+    let got = c.read_begun.ensures.told last left bytes s (told-later (g.F.Folder.files a.folder.now) (g.F.Folder.files c.fill_first.new.folder) a.ask.now.name.now bytes last a.at a.limit s left read.same_files x) front in (
       got.0,
       PullsAtMost-more (20 + (inner_read (length s) - 20)) (inner_read (length s)) (n a.folder.now) (n c.read_begun.new.folder) (omega (arith, begun)) (PullsAtMost-trans 20 (inner_read (length s) - 20) (n a.folder.now) (n c.fill_first.new.folder) (n c.read_begun.new.folder) c.in-Ok.ensures.pulls got.1),
     ))

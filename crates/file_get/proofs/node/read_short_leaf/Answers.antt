@@ -10,7 +10,7 @@ returns-in-Some-clause-told g c = λ last bytes s x size. (
     let a = c.args in
     let p = c.in-Some.probe in
     let read = c.in-Ok.ensures.told last bytes x.tells x.within in
-    let e = some_is (probe_view p) (says a.ask.version s 0) (node-read a.ask.version 0 (g.F.Folder.files a.folder.now) a.ask.name.now bytes _ last a.at (a.at + a.size) a.size s (Some p) x read size c.in-Some.ensures.exact) in
+    let e = some_is (probe_view p) (says a.ask.now.version s 0) (node-read a.ask.now.version 0 (g.F.Folder.files a.folder.now) a.ask.now.name.now bytes _ last a.at (a.at + a.size) a.size s (Some p) x read size c.in-Some.ensures.exact) in
     ap (λ (y : Bool × ℕ × ℕ). y.0) e)
 
 pub returns-in_default-clause-told : goal.returns-in_default-clause-told
@@ -18,7 +18,7 @@ returns-in_default-clause-told g c = λ last bytes s x size. (
     let a = c.args in
     let p = c.in-Some.probe in
     let read = c.in-Ok.ensures.told last bytes x.tells x.within in
-    let e = some_is (probe_view p) (says a.ask.version s 0) (node-read a.ask.version 0 (g.F.Folder.files a.folder.now) a.ask.name.now bytes _ last a.at (a.at + a.size) a.size s (Some p) x read size c.in-Some.ensures.exact) in
+    let e = some_is (probe_view p) (says a.ask.now.version s 0) (node-read a.ask.now.version 0 (g.F.Folder.files a.folder.now) a.ask.now.name.now bytes _ last a.at (a.at + a.size) a.size s (Some p) x read size c.in-Some.ensures.exact) in
     let none : p.left ≡ 0 = ap (λ (y : Bool × ℕ × ℕ). y.1) e in
     omega (arith, none, c.if-probe-eq0.false))
 
@@ -26,4 +26,4 @@ pub returns-in_default-2-clause-told : goal.returns-in_default-2-clause-told
 returns-in_default-2-clause-told g c = λ last bytes s x size. (
     let a = c.args in
     let read = c.in-Ok.ensures.told last bytes x.tells x.within in
-    clash (node-read a.ask.version 0 (g.F.Folder.files a.folder.now) a.ask.name.now bytes _ last a.at (a.at + a.size) a.size s None x read size c.in_default.ensures.exact))
+    clash (node-read a.ask.now.version 0 (g.F.Folder.files a.folder.now) a.ask.now.name.now bytes _ last a.at (a.at + a.size) a.size s None x read size c.in_default.ensures.exact))

@@ -24,7 +24,7 @@ returns-then-opening g c = λ steps. (
     let f = g.F.Folder in
     let k = g.K.Sink in
     let a = c.args in
-    attr-refused f.files f.draft f.numbers f.faults k.taken k.faults a.ask.version a.ask.name.now (child_view a.child) a.opening.now a.place.depth a.name.now a.folder.now a.sink.now a.printer.now steps a.place.has_item (g.met.F.Folder.metered a.folder.now)
+    attr-refused f.files f.draft f.numbers f.faults k.taken k.faults a.ask.now.version a.ask.now.name.now (child_view a.child) a.opening.now a.place.depth a.name.now a.folder.now a.sink.now a.printer.now steps a.place.has_item (g.met.F.Folder.metered a.folder.now)
     c.requires.name
     (λ leaf inside first.
     elim c.then-opening.branch [
@@ -44,8 +44,8 @@ returns-in_err-print_lent_attr-in-Ok-Scalar g c = λ steps. (
     let out = e.ensures in
     let s = state f.files f.draft f.numbers f.faults k.taken k.faults a.folder.now a.sink.now a.printer.now steps in
     let t = state f.files f.draft f.numbers f.faults k.taken k.faults c.read_body.new.folder c.print_lent_attr.new.sink c.print_lent_attr.new.printer steps in
-    at-err c.from_residual.result Out c.from_residual.ensures.1 (λ r. OpenedPrinted a.ask.version a.ask.name.now (child_view a.child) a.opening.now a.place.depth a.place.has_item s t r)
-    (attr-printed-at f.files f.draft f.numbers f.faults k.taken k.faults a.ask.version a.ask.name.now (child_view a.child) a.opening.now a.place.depth a.name.now a.folder.now c.read_body.new.folder a.sink.now c.print_lent_attr.new.sink a.printer.now c.print_lent_attr.new.printer steps
+    at-err c.from_residual.result Out c.from_residual.ensures.1 (λ r. OpenedPrinted a.ask.now.version a.ask.now.name.now (child_view a.child) a.opening.now a.place.depth a.place.has_item s t r)
+    (attr-printed-at f.files f.draft f.numbers f.faults k.taken k.faults a.ask.now.version a.ask.now.name.now (child_view a.child) a.opening.now a.place.depth a.name.now a.folder.now c.read_body.new.folder a.sink.now c.print_lent_attr.new.sink a.printer.now c.print_lent_attr.new.printer steps
     a.place.has_item c.if-place.false (lent_scalar_view b.value) (body_view b.field-0) (Err e.field-0.0) (ap body_view b.field-0-is) c.requires.name c.requires.stands (g.met.F.Folder.metered c.read_body.new.folder) got.reads got.pulls got.told out.prints out.cause))
 
 pub returns-in-Ok-Scalar : goal.returns-in-Ok-Scalar
@@ -57,7 +57,7 @@ returns-in-Ok-Scalar g c = λ steps. (
     let got = b.ensures in
     let e = c.in_ok-print_lent_attr-in-Ok-Scalar in
     let out = e.ensures in
-    attr-printed-at f.files f.draft f.numbers f.faults k.taken k.faults a.ask.version a.ask.name.now (child_view a.child) a.opening.now a.place.depth a.name.now a.folder.now c.read_body.new.folder a.sink.now c.print_lent_attr.new.sink a.printer.now c.print_lent_attr.new.printer steps
+    attr-printed-at f.files f.draft f.numbers f.faults k.taken k.faults a.ask.now.version a.ask.now.name.now (child_view a.child) a.opening.now a.place.depth a.name.now a.folder.now c.read_body.new.folder a.sink.now c.print_lent_attr.new.sink a.printer.now c.print_lent_attr.new.printer steps
     a.place.has_item c.if-place.false (lent_scalar_view b.value) (body_view b.field-0) (Ok e.field-0) (ap body_view b.field-0-is) c.requires.name c.requires.stands (g.met.F.Folder.metered c.read_body.new.folder) got.reads got.pulls got.told out.prints out.cause)
 
 pub returns-in-Ok-Content : goal.returns-in-Ok-Content
@@ -67,7 +67,7 @@ returns-in-Ok-Content g c = λ steps. (
     let a = c.args in
     let b = c.in-Ok-Content in
     let got = b.ensures in
-    attr-content f.files f.draft f.numbers f.faults k.taken k.faults a.ask.version a.ask.name.now (child_view a.child) a.opening.now a.place.depth a.name.now a.folder.now c.read_body.new.folder a.sink.now a.printer.now steps a.place.has_item
+    attr-content f.files f.draft f.numbers f.faults k.taken k.faults a.ask.now.version a.ask.now.name.now (child_view a.child) a.opening.now a.place.depth a.name.now a.folder.now c.read_body.new.folder a.sink.now a.printer.now steps a.place.has_item
     (body_view b.field-0) c.requires.name (content-body (body_view b.field-0) _ (ap body_view b.field-0-is)) got.reads got.pulls got.told)
 
 pub returns : goal.returns
@@ -79,6 +79,6 @@ returns g c = λ steps. (
     let got = b.ensures in
     let s = state f.files f.draft f.numbers f.faults k.taken k.faults a.folder.now a.sink.now a.printer.now steps in
     let t = state f.files f.draft f.numbers f.faults k.taken k.faults c.read_body.new.folder a.sink.now a.printer.now steps in
-    subst (λ (d : GetFault). OpenedPrinted a.ask.version a.ask.name.now (child_view a.child) a.opening.now a.place.depth a.place.has_item s t (Err d)) (sym c.from.ensures)
-    (attr-unread f.files f.draft f.numbers f.faults k.taken k.faults a.ask.version a.ask.name.now (child_view a.child) a.opening.now a.place.depth a.name.now a.folder.now c.read_body.new.folder a.sink.now a.printer.now steps a.place.has_item b.fault
+    subst (λ (d : GetFault). OpenedPrinted a.ask.now.version a.ask.now.name.now (child_view a.child) a.opening.now a.place.depth a.place.has_item s t (Err d)) (sym c.from.ensures)
+    (attr-unread f.files f.draft f.numbers f.faults k.taken k.faults a.ask.now.version a.ask.now.name.now (child_view a.child) a.opening.now a.place.depth a.name.now a.folder.now c.read_body.new.folder a.sink.now a.printer.now steps a.place.has_item b.fault
     c.requires.name got.reads got.pulls got.told))

@@ -18,7 +18,7 @@ returns-in-Ok-clause-told g c = λ end bytes more k tells within stands ends is 
     let e = c.in-Ok.ensures in
     let leads = opening-leads k in
     let comes = opening-comes bytes more a.child.first a.child.end k leads.0 stands ends (law.next (among_nodes 0) leads.0 r more is leads.1) in
-    let front = front-less (g.F.Folder.files a.folder.now) a.ask.name.now bytes end a.child.end tells within in
+    let front = front-less (g.F.Folder.files a.folder.now) a.ask.now.name.now bytes end a.child.end tells within in
     let same : shown_item c.in-Ok.item ≡ item_of r = given-is _ _ _ _ _ (e.told (take a.child.end bytes) front) comes in
     let size : size_of (among_nodes 0) (item_of r) ≡ length (rec_bytes r) = law.size (among_nodes 0) r in
     let read : read_for (among_nodes 0) (item_of r) ≤ size_of (among_nodes 0) (item_of r) = law.within (among_nodes 0) (item_of r) in (
@@ -35,7 +35,7 @@ returns-in-Err-clause-told g c = λ end bytes more k tells within stands ends is
     let e = c.in-Err.ensures in
     let leads = opening-leads k in
     let comes = opening-comes bytes more a.child.first a.child.end k leads.0 stands ends (law.next (among_nodes 0) leads.0 r more is leads.1) in
-    let front = front-less (g.F.Folder.files a.folder.now) a.ask.name.now bytes end a.child.end tells within in
+    let front = front-less (g.F.Folder.files a.folder.now) a.ask.now.name.now bytes end a.child.end tells within in
     let size : size_of (among_nodes 0) (item_of r) ≡ length (rec_bytes r) = law.size (among_nodes 0) r in
     let read : read_for (among_nodes 0) (item_of r) ≤ size_of (among_nodes 0) (item_of r) = law.within (among_nodes 0) (item_of r) in (
       never-none c.in-Err.fault _ (item_of r, more) comes (e.told (take a.child.end bytes) front),
