@@ -54,9 +54,7 @@ pub(crate) fn print_row<F: Folder, K: Sink, L: Ledger>(
         after: row.first,
         has_item: false,
     };
-    visit(
-        ask, &row, span, &mut place, folder, printer, sink, steps,
-    )?;
+    visit(ask, &row, span, &mut place, folder, printer, sink, steps)?;
     Ok(place.has_item)
 }
 
