@@ -9,13 +9,13 @@ use std::alloc::Global;
 const SMALL: usize = 4096;
 
 /// How many small pages are held. What a search of a long file reads first stays held from search to search.
-const SMALL_PAGES: usize = 256;
+const SMALL_PAGES: usize = 64;
 
 /// How much is read where a file is read on.
 const LARGE: usize = 65536;
 
 /// How many large pages are held: so many places of a file are read on side by side.
-const LARGE_PAGES: usize = 16;
+const LARGE_PAGES: usize = 8;
 
 /// How many pages are held.
 const PAGES: usize = SMALL_PAGES + LARGE_PAGES;
@@ -99,7 +99,7 @@ impl Page {
 
 /// What was read of one file. A small page begins at a multiple of its size and has one place; a large one begins where a read
 /// went on. A hint is the index of the page that had what was read last of a piece of the file: pieces are as long as large pages,
-/// and a hint serves each 64th. Room is taken when a page is first used: at most 2 MiB.
+/// and a hint serves each 64th. Room is taken when a page is first used: at most 768 KiB.
 #[derive(Drop)]
 pub struct Pages {
     alloc: Global,
@@ -113,7 +113,7 @@ pub struct Pages {
 /// The place of the small page that has what stands at the offset.
 #[inline]
 fn place_of(at: u64) -> usize
-    ensures { result ≡ (at / 4096) % 256 }
+    ensures { result ≡ (at / 4096) % 64 }
 {
     (at / SMALL as u64 % SMALL_PAGES as u64) as usize
 }
