@@ -20,9 +20,9 @@ use xarch_words::{Command, read_words};
 /// The words are those after the program's name. A batch takes its commands from the lines of
 /// `input`, which no other command reads. Every fault writes one line to `err`; a failure of `err`
 /// changes no status. Input files are read directly before the first step that judges their bytes:
-/// whole, but the archives of `add`, `cut`, `join` and `stats`, which are read record by record, those
-/// of `get`, `history` and `log`, of which only what their searches look at and a `log`'s leaf is read,
-/// and that of `versions`, of which its header and its notes are read.
+/// whole, but the archives of `add`, `check`, `cut`, `join` and `stats`, which are read record by
+/// record, those of `get`, `history` and `log`, of which only what their searches look at and a
+/// `log`'s leaf is read, and that of `versions`, of which its header and its notes are read.
 pub fn run<F: Folder, S: Source, O: Sink, E: Sink>(
     alloc: Global,
     words: &[String],

@@ -26,9 +26,10 @@ use xarch_writes::{run_add, run_demo, run_init, run_rekey};
 ///
 /// Words that are no command, and `batch`, are refused. Every fault writes one line to `err`; a
 /// failure of `err` changes no status. Input files are read directly before the first step that
-/// judges their bytes: whole, but the archives of `add`, `cut`, `join` and `stats`, which are read
-/// record by record, those of `get`, `history` and `log`, of which only what their searches look at and
-/// a `log`'s leaf is read, and that of `versions`, of which its header and its notes are read.
+/// judges their bytes: whole, but the archives of `add`, `check`, `cut`, `join` and `stats`, which
+/// are read record by record, those of `get`, `history` and `log`, of which only what their searches
+/// look at and a `log`'s leaf is read, and that of `versions`, of which its header and its notes are
+/// read.
 pub fn take_step<F: Folder, O: Sink, E: Sink>(
     alloc: Global,
     words: &[String],
