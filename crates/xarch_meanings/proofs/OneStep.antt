@@ -31,7 +31,8 @@ use Rattle.xarch_parts.specs.Outcome.{Outcome, Step, step_from}
 use Rattle.xarch_meanings.specs.Plausible.{DamagedOrSound, IsLate, MayAdd, MayOver, MayWrite, MayBe, MayComeLate, MayDo, MayJoin, MayMake, MayOverBoth, Plausible, add_input, cut_input, get_input, history_input, join_input, log_input, stats_input, versions_input}
 use Rattle.xarch_meanings.specs.PlausibleLaws.{late-three, late-unlisted, late-unlogged, late-unsound, plain-step}
 use Rattle.xarch_meanings.specs.Rekey.{RekeysTo, rekey_rules}
-use Rattle.xarch_meanings.specs.Stats.{CountsFrom, counts_text, noted_counts}
+use Rattle.xarch_meanings.specs.Stats.{CountsFrom, noted_counts}
+use Rattle.xarch_parts.specs.Counts.{counts_text}
 use Rattle.xarch_meanings.specs.Step.{OutcomeIs, DoesOrRefuses, Defines, StepIs, single_of}
 
 module _ (one_archive : (vs : List PlainKeyed) (a b : PlainArchive) → ArchiveOf vs a → ArchiveOf vs b → a ≡ b)

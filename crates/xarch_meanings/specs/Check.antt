@@ -7,7 +7,7 @@ use Rattle.xarch_words.specs.Refusal.{Refusal, damaged}
 use Rattle.xarch_parts.specs.Archives.{GoesOn}
 use Rattle.xarch_parts.specs.Inputs.{file_of}
 use Rattle.xarch_parts.specs.Outcome.{Outcome}
-use Rattle.xarch_meanings.specs.Stats.{count_line}
+use Rattle.xarch_parts.specs.Counts.{count_line}
 
 -- the line of a sound archive of so many versions
 abbrev pub check_text : ℕ → List ℕ

@@ -18,7 +18,7 @@ use Rattle.xarch_words.specs.declared.limits.TheConstants.{DEMO}
 use Rattle.xarch_parts.specs.Archives.{GoesOn, TooLong, free_in}
 use Rattle.xarch_parts.specs.Inputs.{at_most}
 use Rattle.xarch_parts.specs.Outcome.{Outcome, and_then}
-use Rattle.xarch_meanings.specs.Stats.{counts_text}
+use Rattle.xarch_parts.specs.Counts.{counts_text}
 
 -- the keyed tree of a document of the generator
 abbrev pub sample_tree : ℕ → ℕ → PlainKeyed

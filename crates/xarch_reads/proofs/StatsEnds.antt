@@ -21,7 +21,8 @@ use Rattle.xarch_parts.specs.InputLaws.{length-is}
 use Rattle.xarch_parts.specs.Inputs.{file_length}
 use Rattle.xarch_parts.specs.Outcome.{Outcome}
 use Rattle.xarch_meanings.specs.Plausible.{MayWrite, MayBe, stats_input}
-use Rattle.xarch_meanings.specs.Stats.{counts_text, of_size}
+use Rattle.xarch_meanings.specs.Stats.{of_size}
+use Rattle.xarch_parts.specs.Counts.{counts_text}
 
 -- From what is known of all archives with notes: where their parts stand.
 module _ (has_parts : (c : Contents) (bytes : List ℕ) (full : FullAs c bytes) → parts_in bytes ≡ Some (parts_behind full.core c.notes))

@@ -24,8 +24,7 @@ use noted_file::{full_files_are_read_note_by_note, full_files_have_parts};
 use std::alloc::Global;
 use version_notes::{NoteReader, Parts, check_notes};
 use xa_outside::{Folder, Sink};
-use xarch_meanings::write_count;
-use xarch_parts::{damaged, notes_fault};
+use xarch_parts::{damaged, notes_fault, write_count};
 use xarch_words::Fault;
 
 /// Tells whether a file is a sound archive with its notes, and writes how many versions it has.

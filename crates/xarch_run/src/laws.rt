@@ -46,7 +46,7 @@ use xarch_meanings::what_should_succeed_is_not_refused;
 ///
 /// The commands are those of calls of `run`, one after another, and of the lines of their batches.
 /// They may name other archives, sound or not. That merging all of the versions gives the bytes of
-/// the file is clause `held` of `xarch_parts::file_of_versions`.
+/// the file is clause `held` of `file_of_versions`.
 pub fn archives_hold_what_was_handed_in()
     // The file is exactly the encoding of the documents that were handed in since its `init`, or of
     // those of its `demo` and of the documents handed in since then. A document of an `add` is
