@@ -8,9 +8,12 @@ use Rattle.archive_stats.specs.Counts.{PlainCounts, counts}
 use Rattle.version_notes.specs.Notes.{notes_part}
 use Rattle.noted_file.specs.Contents.{Contents}
 use Rattle.xarch_words.specs.Refusal.{Refusal}
-use Rattle.xarch_parts.specs.Archives.{Opens}
-use Rattle.xarch_parts.specs.Counts.{counts_text}
 use Rattle.xarch_parts.specs.Outcome.{Outcome}
+use Rattle.version_notes.specs.declared.parts.Parts.{Parts}
+use Rattle.xarch_parts.specs.Counts.{counts_text}
+use Rattle.xarch_parts.specs.Inputs.{read_in}
+use Rattle.xarch_parts.specs.Readings.{parts_of}
+use Rattle.xarch_meanings.specs.Meaning.{Meaning, printing}
 
 -- the same counts of a file of so many bytes
 abbrev pub of_size : ℕ → PlainCounts → PlainCounts
@@ -26,5 +29,11 @@ pub record CountsFrom (files : Files) (c : Contents) (r : Result Outcome Refusal
   pub of : ArchiveOf c.versions archive
   pub is : r ≡ Ok (record { files = files; output = counts_text (noted_counts c.rules archive c.notes) })
 
-abbrev pub StatsIs : Files → List ℕ → Result Outcome Refusal → Type 0
-StatsIs files archive r = Opens files archive (CountsFrom files) r
+-- ---- all that is said of it
+
+-- The parts of the archive, or the first refusal: the archive is there, and has parts.
+abbrev pub stats_input : Files → List ℕ → Result Parts Refusal
+stats_input files name = read_in files name (parts_of name)
+
+abbrev pub stats_meaning : List ℕ → Meaning
+stats_meaning archive = printing archive (λ files. stats_input files archive) CountsFrom

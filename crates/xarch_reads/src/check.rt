@@ -15,7 +15,7 @@ ghost use Rattle.xarch_parts.specs.Folders.{ReadsOnly};
 ghost use Rattle.xarch_parts.specs.Inputs.{size_in};
 ghost use Rattle.xarch_parts.specs.Noted.{notes_bytes};
 ghost use Rattle.xarch_meanings.specs.Check.{check_text};
-ghost use Rattle.xarch_meanings.specs.Plausible.{MayBe};
+ghost use Rattle.xarch_meanings.specs.Meanings.{MayBe};
 ghost use Rattle.xarch_meanings.specs.Performs.{Performs};
 
 use crate::fronts::parts_in;

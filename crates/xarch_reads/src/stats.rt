@@ -9,7 +9,7 @@ ghost use Rattle.xarch_words.specs.View.{fault_view};
 ghost use Rattle.xarch_parts.specs.Ends.{fault_of};
 ghost use Rattle.xarch_parts.specs.Folders.{ReadsOnly};
 ghost use Rattle.xarch_parts.specs.Inputs.{size_in};
-ghost use Rattle.xarch_meanings.specs.Plausible.{MayBe};
+ghost use Rattle.xarch_meanings.specs.Meanings.{MayBe};
 ghost use Rattle.xarch_meanings.specs.Performs.{Performs};
 ghost use Rattle.xarch_parts.specs.Counts.{counts_text};
 
