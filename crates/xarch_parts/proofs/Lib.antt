@@ -1,3 +1,4 @@
+pub mod MergedLemmas
 pub mod Pushing
 mod FrontLemmas
 pub mod NoteLaws

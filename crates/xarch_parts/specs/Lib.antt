@@ -9,6 +9,5 @@ pub mod FolderLaws
 pub mod InputLaws
 pub mod CoreLaws
 pub mod Noted
-pub mod Counts
 pub mod Allowed
 pub mod AllowedLaws

@@ -22,4 +22,3 @@ pub mod ImportLemmas
 pub mod CallLemmas
 pub mod BatchFronts
 pub mod TableLemmas
-pub mod MergedLemmas
