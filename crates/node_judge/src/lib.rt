@@ -2,8 +2,10 @@
 #![tactic(auto)]
 
 mod bodies;
+mod body;
 mod frame;
 mod held;
+mod keys;
 mod label;
 mod laws;
 mod stamp;
@@ -12,5 +14,8 @@ mod wait;
 
 pub use frame::{Frame, Leaf};
 pub use held::Held;
+pub use keys::keys_of;
+pub use label::KeptLabel;
 pub use laws::{nodes_are_sound_in_their_place, rows_are_right_kid_by_kid};
+pub use tiles::divide;
 pub use wait::{Wait, hand_all, waits_of};

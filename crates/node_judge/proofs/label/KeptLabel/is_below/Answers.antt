@@ -1,7 +1,7 @@
 use Rattle.std.proofs.Common.{◌∙◌, ◌==◌, ap, sym}
 use Rattle.record_parts.specs.ShownViews.{shown_label}
 use Rattle.node_judge.proofs.Kept.{first-above}
-use Rattle.node_judge.proofs.label.LastLabel.is_below.Goals as goal
+use Rattle.node_judge.proofs.label.KeptLabel.is_below.Goals as goal
 
 pub returns-then-is_empty : goal.returns-then-is_empty
 returns-then-is_empty c =

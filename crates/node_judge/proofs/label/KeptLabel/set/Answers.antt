@@ -1,7 +1,7 @@
 use Rattle.std.proofs.Common.{is_ok}
 use Rattle.record_parts.specs.ShownViews.{shown_label}
 use Rattle.node_judge.proofs.Kept.{label-put, label-valid}
-use Rattle.node_judge.proofs.label.LastLabel.set.Goals as goal
+use Rattle.node_judge.proofs.label.KeptLabel.set.Goals as goal
 
 pub invariant_of-self : goal.invariant_of-self
 invariant_of-self c = record {
