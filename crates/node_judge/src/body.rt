@@ -1,16 +1,17 @@
 // Whether a body is right in its leaf.
-ghost use Rattle.std.specs.Prelude.{◌≡◌, ◌<◌, ◌&&◌, ◌^◌, ℕ, true, List, drop, map, nat_lt, string_bytes, Some, None, IfOk, IsTrue};
+ghost use Rattle.std.specs.Prelude.{◌≡◌, ◌+◌, ◌≤◌, ◌&&◌, ℕ, true, List, drop, map, nat_lt, string_bytes, Some, None, IfOk};
 ghost use Rattle.std.specs.List.{list_all};
 ghost use Rattle.std.specs.Option.{option_map};
 ghost use Rattle.std.specs.Ordering.{is_eq};
 ghost use Rattle.archive_file.specs.NodeFits.{ends_in};
-ghost use Rattle.jsonml_tree.specs.Data.{PlainAttr, content, content_depth, no_trees, trees_depth};
-ghost use Rattle.jsonml_tree.specs.View.{items_view};
+ghost use Rattle.jsonml_tree.specs.Data.{PlainAttr, content, content_depth, no_trees};
+ghost use Rattle.jsonml_tree.specs.View.{content_view};
 ghost use Rattle.keyed_tree.specs.Data.{PlainKey, inside};
 ghost use Rattle.keyed_tree.specs.LentView.{lent_val_view};
 ghost use Rattle.keyed_tree.specs.Order.{key_cmp};
 ghost use Rattle.keyed_tree.specs.Plain.{content_of};
 ghost use Rattle.keyed_tree.specs.Proper.{is_content, is_scalar};
+ghost use Rattle.record_parts.specs.Bounds.{deepest};
 ghost use Rattle.record_parts.specs.Reading.{attr_at, next_attr};
 ghost use Rattle.record_parts.specs.ShownViews.{shown_body};
 ghost use Rattle.record_parts.specs.Spelling.{value_bytes};
@@ -19,7 +20,7 @@ ghost use Rattle.node_judge.specs.Awaited.{body_meets};
 ghost use Rattle.node_judge.specs.View.{wait_view};
 
 use crate::wait::Wait;
-use jsonml_tree::Tree;
+use jsonml_tree::{Content, Tree};
 use keyed_tree::{KeyVal, LentVal};
 use record_parts::{BodyView, lend_attr, parts_are_read_as_spelled};
 use std::alloc::{AllocError, Global};
@@ -119,34 +120,23 @@ pub(crate) fn is_content_within(
     if !is_content(body) {
         return Ok(false);
     }
-    if is_short(body, left) {
+    if body.bytes().len() < LEVEL * left as usize {
         return Ok(true);
     }
     match body.copy(alloc)? {
-        KeyVal::Content(content) => Ok(left > 0 && are_within(&content.items, left)),
+        KeyVal::Content(content) => Ok(levels(alloc, content) <= left),
         KeyVal::Scalar(_) => Ok(false),
     }
 }
 
-// Whether the bytes are too few for a content that nests so deep.
-fn is_short(body: &BodyView<'_>, left: u32) -> bool
-    ensures { IsTrue result
-        → nat_lt (content_depth (content_of (shown_body body.now))) left ≡ true }
+// How deep elements nest, with one more around them.
+#[tactic(auto, using(jsonml_tree::proofs::Trees::trees))]
+fn levels(alloc: Global, content: Content) -> u32
+    requires { content_depth (content_view content) ≤ deepest }
+    ensures { result ≡ content_depth (content_view content) + 1 }
 {
-    body.bytes().len() < LEVEL * left as usize
-}
-
-fn are_within(items: &[Tree], left: u32) -> bool
-    requires depth { trees_depth (items_view items.now) < 2 ^ 32 }
-    requires left { 0 < left }
-    ensures { result ≡ nat_lt (trees_depth (items_view items.now)) left }
-{
-    for item in items {
-        if item.depth() >= left {
-            return false;
-        }
-    }
-    true
+    let tag = String::new(alloc);
+    Tree::Elem { tag, content }.depth()
 }
 
 pub(crate) fn is_scalar(body: &BodyView<'_>) -> bool

@@ -117,6 +117,7 @@ impl Kids {
 }
 
 /// Adds the intervals so many times.
+#[tactic(auto, using(crate::proofs::Times::times_more))]
 fn add_times(pairs: &mut Vec<(u32, u32)>, more: &[(u32, u32)], times: u32) -> Result<(), AllocError>
     ensures { OnOk result (pairs.new.items
         ≡ pairs.old.items ++ flat_map (λ s. s) (replicate times more.now)) }
