@@ -55,8 +55,8 @@ pub record AttrsLeft (name : List ℕ) (v : PlainKey) (xs : List PlainAttr) (res
   pub same : has_value name v xs ≡ has_value name v left
 
 module _ (name : List ℕ) (v : PlainKey) (xs : List PlainAttr) (rest : List ℕ) where
-  pub attrs-begin : (n : ℕ) (now : List ℕ) → chain_at attr_at next_attr None n now ≡ Some (xs, rest) → AttrsLeft name v xs rest n now
-  attrs-begin n now e = record { before = None; left = xs; chain = e; same = refl }
+  pub attrs-begin : (n m : ℕ) → m ≡ n → (now : List ℕ) → chain_at attr_at next_attr None n now ≡ Some (xs, rest) → AttrsLeft name v xs rest m now
+  attrs-begin n m is now e = record { before = None; left = xs; chain = ap (λ (k : ℕ). chain_at attr_at next_attr None k now) is ∙ e; same = refl }
 
   -- what stands first of those that are left
   first-left : (before : Option (List ℕ)) (n : ℕ) (now : List ℕ) (left : List PlainAttr) → chain_at attr_at next_attr before (suc n) now ≡ Some (left, rest)

@@ -1,4 +1,4 @@
-use Rattle.std.proofs.Common.{rules, ◌≡◌, ◌∙◌, true, false, drop}
+use Rattle.std.proofs.Common.{rules, ◌≡◌, ◌-◌, ◌∙◌, true, false, drop, arith}
 use Rattle.std.specs.Prelude.{bytes_eq}
 use Rattle.jsonml_tree.specs.Data.{PlainAttr}
 use Rattle.jsonml_tree.specs.LentAttrs.{lent_scalar_view}
@@ -7,7 +7,7 @@ use Rattle.node_judge.proofs.BodyLaws.{attrs-begin, attrs-none, attrs-on, attrs-
 use Rattle.node_judge.proofs.body.is_attribute.Goals as goal
 
 pub loop-init : goal.loop-init
-loop-init c xs rest e = attrs-begin c.args.name.now (shown_body c.args.value.now) xs rest c.args.count (drop c.args.at c.args.bytes.now) e
+loop-init c xs rest e = attrs-begin c.args.name.now (shown_body c.args.value.now) xs rest c.args.count (c.args.count - 0) (omega arith) (drop c.args.at c.args.bytes.now) e
 
 pub returns-in_default : goal.returns-in_default
 returns-in_default c xs rest e =
