@@ -1,5 +1,5 @@
 -- The intervals of the sets of all kids.
-use Rattle.std.proofs.Common.{◌≡◌, ℕ, zero, suc, ◌+◌, List, [], ◌∷◌, ◌++◌, map, replicate, Some, None, refl, sym, ap, ◌∙◌, append_assoc, append-nil, arith}
+use Rattle.std.proofs.Common.{◌≡◌, ℕ, zero, suc, ◌+◌, List, [], ◌∷◌, ◌++◌, ◌<◌, length, map, drop, get_or, replicate, Some, None, refl, sym, ap, ◌∙◌, append_assoc, append-nil, drop-cons, add-one, arith}
 use Rattle.std.specs.List.{flat_map}
 use Rattle.std.proofs.lemmas.List.{map-append}
 use Rattle.std.proofs.lemmas.List.Concat.{flat_map-append}
@@ -36,3 +36,16 @@ left-first row s ss n =
 
 pub left-last : (row : Set) (n : ℕ) → left_of row [] n ≡ intervals (replicate n row)
 left-last row n = ap intervals (inherited row n)
+
+-- the first of those that are left was added
+pub one-done : (row old new : Set) (s : ℕ × Set) (ss : List (ℕ × Set)) (n : ℕ) → new ≡ (old ++ intervals (replicate s.0 row)) ++ s.1 → new ++ left_of row ss n ≡ old ++ left_of row (s ∷ ss) n
+one-done row old new s ss n e =
+    let more = intervals (replicate s.0 row) in
+    ap (λ (x : Set). x ++ left_of row ss n) e
+    ∙ append_assoc (old ++ more) s.1 (left_of row ss n)
+    ∙ append_assoc old more (s.1 ++ left_of row ss n)
+    ∙ ap (λ (x : Set). old ++ x) (sym (left-first row s ss n))
+
+-- the one at an index is the first of those that are left from there
+pub first-left : {X : Type 0} (xs : List X) (i : ℕ) (x : X) → i < length xs → x ≡ get_or xs i x → drop i xs ≡ x ∷ drop (i + 1) xs
+first-left xs i x here is = drop-cons xs i x here ∙ ap (λ y. y ∷ drop (suc i) xs) (sym is) ∙ ap (λ n. x ∷ drop n xs) (sym (add-one i))
