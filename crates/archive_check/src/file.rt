@@ -99,6 +99,8 @@ fn judge_parts<F: Folder>(
         (folder_seen F.files F.draft F.numbers F.faults folder.old)
         (folder_seen F.files F.draft F.numbers F.faults folder.new) result }
 {
+    // The same law: where a file is sound, its nodes are.
+    nodes_are_sound_in_their_place();
     let header = read_header_in(alloc, folder, name, length)?;
     judge_nodes(alloc, folder, name, &header)?;
     Ok(header.versions)

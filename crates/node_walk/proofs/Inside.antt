@@ -1,11 +1,13 @@
 -- What is inside a node, behind the record that opens it.
 use Rattle.std.proofs.Common.{◌≡◌, ℕ, Bool, true, false, cond, ◌&&◌, IsTrue, List, Option, Some, None, Result, Ok, Err, refl, sym, ap, subst, ◌∙◌, true≢false}
+use Rattle.std.specs.Option.{unwrap_or}
 use Rattle.std.proofs.lemmas.Bool.{and_parts}
 use Rattle.keyed_tree.specs.Data.{PlainLabel}
 use Rattle.archive_tree.specs.Data.{Stamp, PlainAlt, PlainNodes, inner_node, leaf_node}
 use Rattle.archive_file.specs.Laid.{RowAt}
 use Rattle.archive_file.proofs.PutLaws.{set_in-is}
 use Rattle.record_format.specs.Nodes.{set_in}
+use Rattle.record_parts.specs.Bounds.{IsSet, IsStamp}
 use Rattle.record_cursor.specs.Faults.{IfDamage, IfFolder}
 use Rattle.record_cursor.specs.declared.fault.CursorFault.{CursorFault}
 use Rattle.record_cursor.specs.declared.fault.CursorFault.TheVariants.{Damage, Memory}
@@ -16,6 +18,11 @@ use Rattle.node_walk.specs.Seen.{Seen, Told, at_hand, Reads}
 use Rattle.node_walk.specs.Walked.{AlternativesJudged, LeafJudged, RowJudged, InnerJudged}
 use Rattle.node_walk.proofs.Steps.{reads-stop}
 
+-- the set of a row that was opened has an encoding
+set-below : (a : Stamp) (set : List (ℕ × ℕ)) → IsStamp a → IsSet set → IsSet (unwrap_or a set)
+set-below None set stamp is = is
+set-below (Some t) set stamp is = stamp.0
+
 -- what was opened, and whether it may be
 opened-some : {X : Type 0} (b : Bool) (x y : X) → Some y ≡ cond b (Some x) None → (b ≡ true) × (y ≡ x)
 opened-some true x y e = (refl, cc)
@@ -24,6 +31,9 @@ opened-some false x y e = absurd cc
 opened-none : {X : Type 0} (b : Bool) (x : X) → None ≡ cond b (Some x) None → b ≡ false
 opened-none true x e = absurd cc
 opened-none false x e = refl
+
+pub opened-set : (f g : PlainFrame) (l : PlainLabel) (a : Stamp) → Some g ≡ inner_opened f l a → IsStamp a → IsSet f.set → IsSet g.set
+opened-set f g l a opened stamp is = (let two = opened-some (may_open f false l a) (row_below f l a) g opened in subst (λ (z : PlainFrame). IsSet z.set) (sym two.1) (set-below a f.set stamp is))
 
 module _ (f : PlainFrame) (l : PlainLabel) (a : Stamp) (s t : Seen) where
   -- ---- a leaf

@@ -168,7 +168,7 @@ module _ (f g : PlainFrame) (s0 s t : Seen) (kids : PlainKids) (k : RowOn f g s0
         let m = t.cursor.at - s.cursor.at in
         record {
           on = on-then s0 s t k.on reads;
-          stands = h.behind.1.0 ∙ k.stands;
+          stands = h.behind.1 ∙ k.stands;
           same = k.same;
           size = omega (arith, ap (λ (x : PlainKids). row_length x.sizes) is, row-longer kids m n (stamp_view v), size, onward);
           few = few;

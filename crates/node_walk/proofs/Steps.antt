@@ -3,8 +3,8 @@ use Rattle.std.proofs.Common.{◌≡◌, ◌≢◌, ℕ, ◌+◌, ◌-◌, ◌�
 use Rattle.std.specs.Result.{IsErrAnd}
 use Rattle.xa_outside.specs.Causes.{Rose}
 use Rattle.xa_outside.specs.Folder.{Files}
-use Rattle.xa_outside.specs.Numbers.{PullsAtMost, after_pull}
-use Rattle.xa_outside.specs.NumberLaws.{PullsAtMost-of, PullsAtMost-more, PullsAtMost-trans}
+use Rattle.xa_outside.specs.Numbers.{IsMeter, PullsAtMost, after_pull}
+use Rattle.xa_outside.specs.NumberLaws.{PullsAtMost-none, PullsAtMost-of, PullsAtMost-more, PullsAtMost-trans}
 use Rattle.record_cursor.specs.Faults.{IfDamage, IfFolder}
 use Rattle.record_cursor.specs.Items.{PlainItem, finish}
 use Rattle.record_cursor.specs.Moves.{TellsFront, Goes, Moves}
@@ -171,6 +171,20 @@ missed s t r e within is files draft pulls later cause damage moves =
       };
       damage = damage;
     }
+
+-- nothing was read
+pub reads-none : (s : Seen) → s.cursor.at ≤ s.cursor.length → IsMeter s.numbers → Reads s s None
+reads-none s within meter = record {
+  same_files = refl;
+  same_draft = refl;
+  later = omega arith;
+  cause = tt;
+  same_name = refl;
+  same_length = refl;
+  onward = omega arith;
+  within = within;
+  pulls = PullsAtMost-none (s.cursor.at - s.cursor.at) s.numbers meter;
+}
 
 -- ---- what the code hands on
 

@@ -4,6 +4,7 @@ ghost use Rattle.node_walk.specs.Nodes.{NodesJudged, FolderSeen, folder_seen};
 
 use crate::finish::read_finish;
 use crate::root::judge_root;
+use node_judge::rows_are_right_kid_by_kid;
 use record_cursor::{Cursor, CursorFault, Header};
 use row_ends::Room;
 use std::alloc::Global;
@@ -26,6 +27,8 @@ pub fn judge_nodes<F: Folder>(
         (folder_seen F.files F.draft F.numbers F.faults folder.old)
         (folder_seen F.files F.draft F.numbers F.faults folder.new) result }
 {
+    // A law, for the proof: a row tells whether an archive is sound.
+    rows_are_right_kid_by_kid();
     let mut cursor = Cursor::start(alloc, name, header)?;
     let mut room = Room::new(alloc)?;
     let set = VersionSet::upto(alloc, header.versions);
