@@ -122,9 +122,9 @@ fn judge_inner<F: Folder>(
         (seen F.files F.draft F.numbers F.faults folder.old cursor.old)
         (seen F.files F.draft F.numbers F.faults folder.new cursor.new) result }
 {
-    let label = label.lend();
+    let label = (&*label).lend();
     let keys = keys_of(alloc, &label)?;
-    match frame.open_inner(alloc, &label, &keys, stamp)? {
+    match (&*frame).open_inner(alloc, &label, &keys, &*stamp)? {
         Some(mut below) => {
             let mut kids = Kids::new(alloc);
             judge_row(alloc, room, folder, name, cursor, &mut below, &mut kids)

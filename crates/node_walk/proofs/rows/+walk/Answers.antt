@@ -4,9 +4,10 @@ use Rattle.xa_fields.proofs.Fields.{some_is}
 use Rattle.archive_tree.specs.Data.{Stamp}
 use Rattle.archive_tree.specs.View.{stamp_view}
 use Rattle.keyed_tree.specs.Data.{PlainLabel}
-use Rattle.record_parts.specs.ShownViews.{label_in}
+use Rattle.record_parts.specs.ShownViews.{label_in, shown_label}
 use Rattle.record_cursor.specs.Places.{Standing, among_nodes, in_leaf}
 use Rattle.record_cursor.specs.View.{PlainCursor}
+use Rattle.record_cursor.specs.declared.fault.CursorFault.TheVariants.{Memory}
 use Rattle.node_judge.specs.FrameView.{frame_view, kept_label}
 use Rattle.node_judge.specs.Rows.{PlainFrame, inner_opened}
 use Rattle.row_ends.specs.Kids.{with_kid}
@@ -14,12 +15,13 @@ use Rattle.row_ends.specs.KidsView.{kids_view}
 use Rattle.node_walk.specs.Next.{next_view, HasLabel, HasStamp}
 use Rattle.node_walk.specs.Places.{IsAmongNodes, IsInLeaf}
 use Rattle.node_walk.specs.Seen.{Seen, seen}
-use Rattle.node_walk.specs.Walked.{Given, NextRead, InRowJudged, RowJudged}
+use Rattle.node_walk.specs.Walked.{NextRead, InRowJudged, InnerJudged, RowJudged}
 use Rattle.node_walk.specs.declared.next.Next.{Next}
 use Rattle.node_walk.specs.declared.rows.InRow.{InRow}
 use Rattle.node_walk.proofs.InRowLaws.{in-row-failed, in-row-end, leaf-inside, in-row-leaf, in-row-no-leaf, inner-inside, in-row-inner, in-row-no-inner}
 use Rattle.node_walk.proofs.RowLaws.{RowOn, row-begins, row-failed, row-kept, row-not-kept, row-ended, row-not-ended}
-use Rattle.node_walk.proofs.Steps.{at-err}
+use Rattle.node_walk.proofs.Inside.{inner-judged, inner-refused, inner-memory, opened-set}
+use Rattle.node_walk.proofs.Steps.{at-err, reads-none}
 use Rattle.node_walk.proofs.rows.+walk.Given.{Over}
 use Rattle.node_walk.proofs.rows.+walk.Goals as goal
 
@@ -43,10 +45,6 @@ leaf-here p d is = subst IsInLeaf (sym is) tt
 
 among-here : (p : Standing) (d : ℕ) → p ≡ among_nodes d → IsAmongNodes p
 among-here p d is = subst IsAmongNodes (sym is) tt
-
--- what was opened with the label that is shown
-opened-with : (o : Option PlainFrame) (f g : PlainFrame) (shown l : PlainLabel) (a : Stamp) → o ≡ inner_opened f shown a → o ≡ Some g → shown ≡ l → Some g ≡ inner_opened f l a
-opened-with o f g shown l a opened is same = sym is ∙ opened ∙ ap (λ (m : PlainLabel). inner_opened f m a) same
 
 -- ---- what comes in a row
 
@@ -152,6 +150,52 @@ judge_in_row-returns-in_err-dir-in-Inner g t c =
     let r = c.from_residual-in_err-dir-in-Inner in
     at-err r.result e.field-0.0 r.ensures.1 (λ q. InRowJudged f l s u q)
     (in-row-no-inner f l s c.requires.1.1.1.1.1.0 m h.reads h.labelled c.in-Inner.stamp h.given u e.field-0.0 (e.ensures (label_in l) (is-label l h.labelled)))
+
+-- ---- inside an inner node
+
+pub judge_inner-returns-in_err-keys : goal.judge_inner-returns-in_err-keys
+judge_inner-returns-in_err-keys g t c = λ l is. (
+    let f = frame_view c.args.frame.now in
+    let a = stamp_view c.args.stamp.now in
+    let s = at g c.args.folder.now c.args.cursor.now in
+    at-err c.from_residual.result Memory c.from_residual.ensures.1 (λ r. InnerJudged f l a s s r) (inner-memory f l a s (reads-none s c.requires.1.1.1.1.0 (g.met.F.Folder.metered c.args.folder.now))))
+
+pub judge_inner-returns-in_err-below : goal.judge_inner-returns-in_err-below
+judge_inner-returns-in_err-below g t c = λ l is. (
+    let f = frame_view c.args.frame.now in
+    let a = stamp_view c.args.stamp.now in
+    let s = at g c.args.folder.now c.args.cursor.now in
+    let r = c.from_residual-in_err-below in
+    at-err r.result Memory r.ensures.1 (λ r. InnerJudged f l a s s r) (inner-memory f l a s (reads-none s c.requires.1.1.1.1.0 (g.met.F.Folder.metered c.args.folder.now))))
+
+pub judge_inner-returns-in-None : goal.judge_inner-returns-in-None
+judge_inner-returns-in-None g t c = λ l is. (
+    let f = frame_view c.args.frame.now in
+    let a = stamp_view c.args.stamp.now in
+    let s = at g c.args.folder.now c.args.cursor.now in
+    let same : shown_label c.lend-label.result ≡ l = some_is _ l (c.lend-label.ensures ∙ is) in
+    inner-refused f l a s (reads-none s c.requires.1.1.1.1.0 (g.met.F.Folder.metered c.args.folder.now)) (rw c.in-None.is at c.in_ok-below.ensures ∙ ap (λ (m : PlainLabel). inner_opened f m a) same))
+
+pub judge_inner-judge_row-requires : goal.judge_inner-judge_row-requires
+judge_inner-judge_row-requires g t c =
+    let f = frame_view c.args.frame.now in
+    let a = stamp_view c.args.stamp.now in
+    record {
+      named = c.requires.1.1.1.0;
+      within = c.requires.1.1.1.1.0;
+      among = c.requires.1.1.1.1.1.0;
+      set = opened-set f (frame_view c.in-Some.below) (shown_label c.lend-label.result) a (rw c.in-Some.is at c.in_ok-below.ensures) c.requires.1.1.1.1.1.1.1.1 c.requires.1.1.1.1.1.1.0;
+      none = c.new-kids.ensures;
+    }
+
+pub judge_inner-returns-in-Some : goal.judge_inner-returns-in-Some
+judge_inner-returns-in-Some g t c = λ l is. (
+    let f = frame_view c.args.frame.now in
+    let a = stamp_view c.args.stamp.now in
+    let s = at g c.args.folder.now c.args.cursor.now in
+    let u = at g c.judge_row.new.folder c.judge_row.new.cursor in
+    let same : shown_label c.lend-label.result ≡ l = some_is _ l (c.lend-label.ensures ∙ is) in
+    inner-judged f l a s u (frame_view c.in-Some.below) (rw c.in-Some.is at c.in_ok-below.ensures ∙ ap (λ (m : PlainLabel). inner_opened f m a) same) (kids_view c.judge_row.new.kids) c.judge_row.result c.judge_row.ensures)
 
 -- ---- a row
 
