@@ -52,14 +52,14 @@ module _ (f : PlainFrame) (kids : PlainKids) (n : ℕ) (s : Seen) (short : s.cur
     undamaged = λ bytes there met is. true≢false (sym met ∙ sym not);
   }
 
-  module _ (at : ℕ) (name : List ℕ) (t : Seen) (named : name ≡ s.cursor.name) (place : at ≡ s.cursor.at - n) (fits : n ≤ s.cursor.at) (within : s.cursor.at ≤ s.cursor.length) (met : true ≡ is_met_all f) where
+  module _ (at : ℕ) (name : List ℕ) (t : Seen) (named : name ≡ s.cursor.name) (place : at ≡ s.cursor.at - n) (fits : n ≤ s.cursor.at) (within : s.cursor.at ≤ s.cursor.length) (met : true ≡ is_met_all f) (set : List (ℕ × ℕ)) (own : set ≡ f.set) where
     met-where : (r : Result Bool CursorFault) → OnOk (verdict r) (IsTrue (is_met_all f))
     met-where (Ok true) = sym met
     met-where (Ok false) = tt
     met-where (Err e) = tt
 
     pub judged : (r : Result Bool CursorFault) → t.files ≡ s.files → t.draft ≡ s.draft → s.faults ≤ t.faults → IsCause s.faults t.faults (fault_of r) → PullsAtMost n s.numbers t.numbers
-        → ((end : ℕ) (bytes : List ℕ) → TellsFront s.files name end bytes → at + n ≤ end → Filled r (λ b. b ≡ bytes_eq (dir_bytes (dir_in f.set kids)) (take n (drop at bytes)))) → EndJudged f kids n s t (verdict r)
+        → ((end : ℕ) (bytes : List ℕ) → TellsFront s.files name end bytes → at + n ≤ end → Filled r (λ b. b ≡ bytes_eq (dir_bytes (dir_in set kids)) (take n (drop at bytes)))) → EndJudged f kids n s t (verdict r)
     judged r files draft later cause pulls told = record {
       same_files = files;
       same_draft = draft;
@@ -73,5 +73,7 @@ module _ (f : PlainFrame) (kids : PlainKids) (n : ℕ) (s : Seen) (short : s.cur
     }
       where
         answer : (bytes : List ℕ) → Told s bytes → Filled r (λ b. b ≡ bytes_eq (dir_bytes (dir_in f.set kids)) (end_body s n bytes))
-        answer bytes there = subst (λ (a : ℕ). Filled r (λ b. b ≡ bytes_eq (dir_bytes (dir_in f.set kids)) (take n (drop a bytes)))) place
-            (told s.cursor.length bytes (subst (λ (m : List ℕ). TellsFront s.files m s.cursor.length bytes) (sym named) there) (omega (arith, place, fits, within)))
+        answer bytes there =
+            subst (λ (x : List (ℕ × ℕ)). Filled r (λ b. b ≡ bytes_eq (dir_bytes (dir_in x kids)) (end_body s n bytes))) own
+            (subst (λ (a : ℕ). Filled r (λ b. b ≡ bytes_eq (dir_bytes (dir_in set kids)) (take n (drop a bytes)))) place
+            (told s.cursor.length bytes (subst (λ (m : List ℕ). TellsFront s.files m s.cursor.length bytes) (sym named) there) (omega (arith, place, fits, within))))
