@@ -3,6 +3,7 @@
 
 mod fault;
 mod file;
+mod nodes;
 
 pub use fault::CheckFault;
 pub use file::check;

@@ -10,5 +10,3 @@ pub mod Openings
 pub mod RowLaws
 pub mod SoundFiles
 pub mod Waits
-pub mod Values
-pub mod BodyLaws

@@ -2,4 +2,3 @@ pub mod Same
 pub mod Steps
 pub mod Sizes
 pub mod Stamps
-pub mod Times
