@@ -9,15 +9,13 @@ ghost use Rattle.xa_outside.specs.Causes.{Rose};
 ghost use Rattle.xa_outside.specs.Folder.{Files, front_of};
 ghost use Rattle.xa_outside.specs.Numbers.{PullsAtMost};
 ghost use Rattle.node_walk.specs.Nodes.{folder_seen};
-ghost use Rattle.archive_check.specs.Judged.{FileJudged};
-ghost use Rattle.archive_check.specs.Read.{PartsRead};
+ghost use Rattle.archive_check.specs.Judged.{FileJudged, PartsJudged};
 ghost use Rattle.archive_check.specs.declared.fault.CheckFault.TheVariants.{Damage, Folder};
 
 use crate::fault::CheckFault;
-use crate::nodes::judge_nodes;
-use archive_tree::ANode;
-use node_walk::read_nodes;
-use record_cursor::{CursorFault, Header, read_header_in};
+use node_judge::nodes_are_sound_in_their_place;
+use node_walk::judge_nodes;
+use record_cursor::{CursorFault, read_header_in};
 use record_format::LONGEST;
 use std::alloc::Global;
 use xa_outside::Folder;
@@ -25,9 +23,9 @@ use xa_outside::Folder;
 /// The number of versions of the archive that the first `length` bytes of a file are, or Damage
 /// where they are no sound archive.
 ///
-/// It reads the header, and then each record once, and holds the nodes, but neither the file nor
-/// its directories. A file that begins with no header is refused after its first bytes, and one
-/// with fewer bytes is damaged.
+/// It reads the header, and then each record once, and judges each node where it is met. It holds
+/// neither nodes nor the file nor its directories. A file that begins with no header is refused
+/// after its first bytes, and one with fewer bytes is damaged.
 pub fn check<F: Folder>(
     alloc: Global,
     folder: &mut F,
@@ -78,26 +76,32 @@ fn judge_file<F: Folder>(
         (folder_seen F.files F.draft F.numbers F.faults folder.old)
         (folder_seen F.files F.draft F.numbers F.faults folder.new) result }
 {
-    match read_parts(alloc, folder, name, length) {
-        Ok((header, nodes)) => judge_nodes(alloc, &header, nodes),
+    // A law, for the proof: a file is sound exactly where nodes lie in it that are right.
+    nodes_are_sound_in_their_place();
+    match judge_parts(alloc, folder, name, length) {
+        Ok(versions) => Ok(versions),
         Err(CursorFault::Damage) => Err(CheckFault::Damage),
         Err(CursorFault::Folder) => Err(CheckFault::Folder),
         Err(CursorFault::Memory) => Err(CheckFault::Memory),
     }
 }
 
-/// The header and the nodes of the first bytes of a file, so many.
-fn read_parts<F: Folder>(
+/// Judges the header and the nodes of the first bytes of a file, so many, and answers the number of
+/// versions.
+fn judge_parts<F: Folder>(
     alloc: Global,
     folder: &mut F,
     name: &str,
     length: u64,
-) -> Result<(Header, Vec<ANode>), CursorFault>
-    ensures { PartsRead name.now length
+) -> Result<u32, CursorFault>
+    requires { length ≤ longest }
+    ensures { PartsJudged name.now length
         (folder_seen F.files F.draft F.numbers F.faults folder.old)
         (folder_seen F.files F.draft F.numbers F.faults folder.new) result }
 {
+    // The same law: where a file is sound, its nodes are.
+    nodes_are_sound_in_their_place();
     let header = read_header_in(alloc, folder, name, length)?;
-    let nodes = read_nodes(alloc, folder, name, &header)?;
-    Ok((header, nodes))
+    judge_nodes(alloc, folder, name, &header)?;
+    Ok(header.versions)
 }

@@ -3,7 +3,6 @@
 
 mod fault;
 mod file;
-mod nodes;
 
 pub use fault::CheckFault;
 pub use file::check;

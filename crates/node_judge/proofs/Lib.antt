@@ -10,3 +10,5 @@ pub mod Openings
 pub mod RowLaws
 pub mod SoundFiles
 pub mod Waits
+pub mod Values
+pub mod BodyLaws

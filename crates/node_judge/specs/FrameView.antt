@@ -9,11 +9,11 @@ use Rattle.node_judge.specs.Rows.{PlainFrame, PlainLeaf}
 use Rattle.node_judge.specs.View.{wait_view}
 use Rattle.node_judge.specs.declared.frame.Frame.{Frame}
 use Rattle.node_judge.specs.declared.frame.Leaf.{Leaf}
-use Rattle.node_judge.specs.declared.label.LastLabel.{LastLabel}
+use Rattle.node_judge.specs.declared.label.KeptLabel.{KeptLabel}
 
 -- the label whose encoding is kept, and none where no bytes are
-abbrev pub last_view : LastLabel → Option PlainLabel
-last_view last = whole label_at last.bytes.items
+abbrev pub kept_label : KeptLabel → Option PlainLabel
+kept_label kept = whole label_at kept.bytes.items
 
 abbrev pub frame_view : Frame → PlainFrame
 frame_view f = record {
@@ -22,7 +22,7 @@ frame_view f = record {
   set = pairs_of f.set.now;
   left = f.left;
   waits = map wait_view f.waits.items;
-  last = last_view f.last;
+  last = kept_label f.last;
 }
 
 abbrev pub leaf_view : Leaf → PlainLeaf

@@ -3,7 +3,8 @@ ghost use Rattle.std.specs.Prelude.{◌≡◌};
 ghost use Rattle.key_spec.specs.ContextView.{context_path};
 ghost use Rattle.node_judge.specs.InPlace.{is_below_root};
 
-use crate::label::LastLabel;
+use crate::body::{is_content_within, is_scalar, meets_all};
+use crate::label::KeptLabel;
 use crate::stamp::is_stamp_well;
 use crate::wait::{Wait, hand_all, hand_onto, hands_nothing, waits_of};
 use archive_tree::effective;
@@ -25,7 +26,7 @@ pub struct Frame<'a> {
     set: &'a VersionSet,
     left: u32,
     waits: Vec<Wait<'a>>,
-    last: LastLabel,
+    last: KeptLabel,
     ghost placed: { below_root ≡ is_below_root (context_path place) },
 }
 
@@ -37,6 +38,29 @@ pub struct Leaf<'a> {
     pub(crate) set: &'a VersionSet,
     left: u32,
     waits: Vec<Wait<'a>>,
+}
+
+impl Leaf<'_> {
+    ghost use Rattle.std.specs.Prelude.{◌≡◌, IfOk};
+    ghost use Rattle.record_parts.specs.ShownViews.{shown_body};
+    ghost use Rattle.node_judge.specs.FrameView.{leaf_view};
+    ghost use Rattle.node_judge.specs.Rows.{is_body_of};
+
+    /// Whether a body is right in the leaf: a content that is not too deep, or an attribute's
+    /// scalar; and it has what the leaf waits for. It takes memory only for a content so long that
+    /// it might be too deep.
+    pub(crate) fn is_body(&self, alloc: Global, body: &BodyView<'_>) -> Result<bool, AllocError>
+        ensures { IfOk result
+            (λ b. b ≡ is_body_of (leaf_view self.now) (shown_body body.now)) }
+    {
+        if !meets_all(&self.waits, body) {
+            return Ok(false);
+        }
+        if !self.is_element {
+            return Ok(is_scalar(body));
+        }
+        is_content_within(alloc, body, self.left)
+    }
 }
 
 impl<'a> Frame<'a> {
@@ -68,7 +92,7 @@ impl<'a> Frame<'a> {
             set,
             left: GREATEST_DEPTH,
             waits: Vec::new(alloc),
-            last: LastLabel::none(alloc),
+            last: KeptLabel::none(alloc),
         }
     }
 
@@ -126,6 +150,13 @@ impl<'a> Frame<'a> {
     {
         self.waits.retain(|wait| wait.hand(label).is_none());
         self.last.set(label)
+    }
+
+    /// The set of its parent.
+    pub fn set(&self) -> &'a VersionSet
+        ensures { pairs_of result.now ≡ (frame_view self.now).set }
+    {
+        self.set
     }
 
     /// Whether the row may end: nothing is waited for any more.
@@ -281,7 +312,7 @@ impl<'a> Frame<'a> {
             set: effective(stamp, self.set),
             left: self.left - 1,
             waits,
-            last: LastLabel::none(alloc),
+            last: KeptLabel::none(alloc),
         }
     }
 }

@@ -7,6 +7,7 @@ ghost use Rattle.record_parts.specs.ShownViews.{shown_body};
 ghost use Rattle.node_judge.specs.FrameView.{leaf_view};
 ghost use Rattle.node_judge.specs.HeldView.{held_leaf, held_numbers, held_view};
 ghost use Rattle.node_judge.specs.Holding.{Holds, held_with, may_follow, none_held};
+ghost use Rattle.node_judge.specs.Rows.{is_body_of};
 
 use crate::bodies::do_differ;
 use crate::frame::Leaf;
@@ -41,6 +42,15 @@ impl<'a> Held<'a> {
             pairs: Vec::new(alloc),
             bodies: Vec::new(alloc),
         }
+    }
+
+    /// Whether a body is right in the leaf: a content that is not too deep, or an attribute's
+    /// scalar; and it has what the leaf waits for. It takes memory only for a content so long that
+    /// it might be too deep.
+    pub fn is_body(&self, alloc: Global, body: &BodyView<'_>) -> Result<bool, AllocError>
+        ensures { IfOk result (λ b. b ≡ is_body_of (held_leaf self.now) (shown_body body.now)) }
+    {
+        self.leaf.is_body(alloc, body)
     }
 
     /// Holds the alternative with this timestamp and this body, if it may come next. It takes memory

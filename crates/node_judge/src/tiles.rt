@@ -8,9 +8,9 @@ ghost use Rattle.archive_tree.specs.PartsTest.{are_parts, do_tile};
 
 use version_set::VersionSet;
 
-// Whether the sets of these intervals are pairwise disjoint and together the set. The intervals are
-// sorted and gone along once.
-pub(crate) fn divide(set: &VersionSet, mut pairs: Vec<(u32, u32)>) -> bool
+/// Whether the sets of these intervals are pairwise disjoint and together the set. The intervals are
+/// sorted and gone along once.
+pub fn divide(set: &VersionSet, mut pairs: Vec<(u32, u32)>) -> bool
     ensures { (ss : List (List (ℕ × ℕ))) → AllByRecursion IsCanonical ss
         → pairs.items ≡ flat_map (λ s. s) ss
         → result ≡ are_parts (members (pairs_of set.now)) (map members ss) }

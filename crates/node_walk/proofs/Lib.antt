@@ -1,8 +1,12 @@
 pub mod Records
 pub mod Steps
 pub mod Leaves
+pub mod Holding
+pub mod Nexts
 pub mod Kids
 pub mod RowLaws
 pub mod InRowLaws
+pub mod Inside
+pub mod Roots
 pub mod NodeLaws
 pub mod EndLaws

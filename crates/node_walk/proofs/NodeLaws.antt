@@ -1,19 +1,21 @@
 -- The nodes of a file, and its end.
-use Rattle.std.proofs.Common.{◌≡◌, ◌≢◌, ℕ, ◌-◌, ◌≤◌, Bool, cond, List, [], length, drop, Option, Some, None, Ok, Err, Vec, refl, sym, ap, subst, ◌∙◌, arith}
+use Rattle.std.proofs.Common.{◌≡◌, ◌≢◌, ℕ, ◌-◌, ◌≤◌, Bool, true, cond, ◌&&◌, IsTrue, List, [], length, drop, Option, Some, None, Result, Ok, Err, refl, sym, ap, subst, ◌∙◌, arith}
 use Rattle.std.specs.FinMap as map
-use Rattle.std.specs.declared.alloc.Global.{Global}
+use Rattle.std.specs.List.{range_with_len}
+use Rattle.std.proofs.lemmas.Bool.{and_parts, and_from}
 use Rattle.std.proofs.lemmas.Slice.Eq.{bytes_eq-Decides}
-use Rattle.version_set.specs.Members.{upto_pairs}
+use Rattle.jsonml_tree.specs.declared.limits.TheConstants.{GREATEST_DEPTH}
+use Rattle.version_set.specs.Members.{members, upto_pairs}
 use Rattle.archive_tree.specs.Data.{PlainNodes}
-use Rattle.archive_tree.specs.View.{nodes_view}
-use Rattle.archive_tree.specs.declared.node.ANode.{ANode}
+use Rattle.archive_tree.specs.Parts.{node_sets}
+use Rattle.archive_tree.specs.PartsTest.{are_parts}
 use Rattle.xa_fields.specs.Spelling.{u64_bytes}
 use Rattle.xa_outside.specs.Folder.{bytes_or_none}
 use Rattle.xa_outside.specs.Numbers.{IsMeter, PullsAtMost}
 use Rattle.xa_outside.specs.NumberLaws.{PullsAtMost-none, PullsAtMost-more}
 use Rattle.record_parts.specs.Bounds.{deepest}
 use Rattle.archive_file.specs.Laid.{RowAt}
-use Rattle.record_cursor.specs.Items.{PlainItem, finish}
+use Rattle.record_cursor.specs.Items.{PlainItem, inner_item, leaf_item, alt_item, leaf_end_item, end_item, finish}
 use Rattle.record_cursor.specs.Moves.{TellsFront}
 use Rattle.record_cursor.specs.Next.{next_of}
 use Rattle.record_cursor.specs.Places.{Standing, among_nodes, behind_root, finished}
@@ -22,15 +24,14 @@ use Rattle.record_cursor.specs.View.{PlainCursor, PlainHeader}
 use Rattle.record_cursor.specs.declared.fault.CursorFault.{CursorFault}
 use Rattle.record_cursor.specs.declared.fault.CursorFault.TheVariants.{Damage, Memory}
 use Rattle.record_cursor.proofs.Comes.{ends}
-use Rattle.node_walk.specs.Nodes.{FolderSeen, NodesLie, NodesRead}
-use Rattle.node_walk.specs.Owned.{owned_view}
+use Rattle.node_judge.specs.InPlace.{is_sound_archive}
+use Rattle.node_judge.specs.Rows.{root_frame, goes_on}
+use Rattle.node_walk.specs.Nodes.{FolderSeen, NodesLie, NodesJudged, archive_with}
 use Rattle.node_walk.specs.Places.{left_of}
 use Rattle.node_walk.specs.Seen.{Seen, Told, at_hand, may_pull, Reads}
-use Rattle.node_walk.specs.Walked.{Given, OwnedRead, FinishRead, RowRead, end_length}
-use Rattle.node_walk.specs.declared.owned.Owned.{Owned}
-use Rattle.node_walk.specs.declared.owned.Owned.TheVariants as owned
+use Rattle.node_walk.specs.Walked.{Given, FinishRead, RowHere, RootJudged, IsRootRight, end_length}
 use Rattle.node_walk.proofs.Leaves.{leads-nowhere}
-use Rattle.node_walk.proofs.Steps.{reads-then, damage-map, told-on}
+use Rattle.node_walk.proofs.Steps.{Missed, reads-then, damage-map, told-on}
 
 -- ---- the end of the file
 
@@ -42,7 +43,7 @@ tail-comes : (n : ℕ) (now : List ℕ) → now ≡ u64_bytes n → next_of (beh
 tail-comes n now e = ends n now (ap (λ (b : Bool). cond {A = Option (PlainItem × List ℕ)} b (Some (finish, [])) None) ((bytes_eq-Decides now (u64_bytes n)).1 e))
 
 module _ (n : ℕ) (s : Seen) (stands : s.cursor.standing ≡ behind_root n) where
-  pub finish-failed : (t : Seen) (e : CursorFault) → OwnedRead s t (Err e) → FinishRead n s t (Err e)
+  pub finish-failed : (t : Seen) (e : CursorFault) → Missed s t e → FinishRead n s t (Err e)
   finish-failed t e h = record {
     reads = h.reads;
     lies = λ bytes told. tt;
@@ -62,16 +63,16 @@ module _ (n : ℕ) (s : Seen) (stands : s.cursor.standing ≡ behind_root n) whe
       open-yet : behind_root n ≡ finished → ⊥
       open-yet e = cc
 
-  no-other : (t : Seen) (o : Owned) → o ≢ owned.Finish → Given s t (owned_view o) → ⊥
-  no-other t (owned.Inner l a) f g = leads-nowhere s t (owned_view (owned.Inner l a)) (behind_root n) stands refl g
-  no-other t (owned.Leaf l a) f g = leads-nowhere s t (owned_view (owned.Leaf l a)) (behind_root n) stands refl g
-  no-other t (owned.Alt a b) f g = leads-nowhere s t (owned_view (owned.Alt a b)) (behind_root n) stands refl g
-  no-other t owned.LeafEnd f g = leads-nowhere s t (owned_view owned.LeafEnd) (behind_root n) stands refl g
-  no-other t (owned.End m) f g = leads-nowhere s t (owned_view (owned.End m)) (behind_root n) stands refl g
-  no-other t owned.Finish f g = f refl
+  no-other : (t : Seen) (i : PlainItem) → i ≢ finish → Given s t i → ⊥
+  no-other t (inner_item l a) f g = leads-nowhere s t (inner_item l a) (behind_root n) stands refl g
+  no-other t (leaf_item l a) f g = leads-nowhere s t (leaf_item l a) (behind_root n) stands refl g
+  no-other t (alt_item a b) f g = leads-nowhere s t (alt_item a b) (behind_root n) stands refl g
+  no-other t leaf_end_item f g = leads-nowhere s t leaf_end_item (behind_root n) stands refl g
+  no-other t (end_item m) f g = leads-nowhere s t (end_item m) (behind_root n) stands refl g
+  no-other t finish f g = f refl
 
-  pub finish-other : (t : Seen) (o : Owned) → o ≢ owned.Finish → Given s t (owned_view o) → FinishRead n s t (Err Damage)
-  finish-other t o f g = absurd (no-other t o f g)
+  pub finish-other : (t : Seen) (i : PlainItem) → i ≢ finish → Given s t i → FinishRead n s t (Err Damage)
+  finish-other t i f g = absurd (no-other t i f g)
 
 -- ---- the nodes
 
@@ -102,88 +103,114 @@ module _ (name : List ℕ) (h : PlainHeader) (s : Seen) (is : s.cursor ≡ recor
       subst (λ (z : List ℕ). RowAt (upto_pairs h.versions) ks rest deepest z) (hand bytes)
       (subst (λ (d : ℕ). RowAt (upto_pairs h.versions) ks rest d (at_hand s bytes)) whole-left (subst (λ (z : List (ℕ × ℕ)). RowAt z ks rest (left_of s) (at_hand s bytes)) own row))
 
-  module _ (u : Seen) where
-    pulls-all : (e : Option CursorFault) → Reads s u e → PullsAtMost (h.length - h.first) s.numbers u.numbers
-    pulls-all e reads =
-        let at = ap (λ (c : PlainCursor). c.at) is in
-        let end = ap (λ (c : PlainCursor). c.length) is in
-        let all = pull-all s u e reads.within reads.same_length in
-        PullsAtMost-more (may_pull s u e) (h.length - h.first) s.numbers u.numbers (omega (arith, all, at, end)) reads.pulls
+  -- the row of the root is that of a sound archive
+  module _ (set : List (ℕ × ℕ)) (own : set ≡ upto_pairs h.versions) (numbers : members set ≡ range_with_len 1 h.versions) (law : (ks : PlainNodes) → is_sound_archive h.rules (archive_with h ks)
+      ≡ (goes_on (root_frame h.rules (upto_pairs h.versions) GREATEST_DEPTH) ks && are_parts (range_with_len 1 h.versions) (node_sets (range_with_len 1 h.versions) ks))) where
+    sound-right : (ks : PlainNodes) → IsTrue (is_sound_archive h.rules (archive_with h ks)) → IsRootRight h.rules set ks
+    sound-right ks sound =
+        let two = and_parts (goes_on (root_frame h.rules (upto_pairs h.versions) GREATEST_DEPTH) ks) (are_parts (range_with_len 1 h.versions) (node_sets (range_with_len 1 h.versions) ks)) (sym (law ks) ∙ sound) in (
+          subst (λ (z : List (ℕ × ℕ)). IsTrue (goes_on (root_frame h.rules z GREATEST_DEPTH) ks)) (sym own) two.0,
+          subst (λ (ns : List ℕ). IsTrue (are_parts ns (node_sets ns ks))) (sym numbers) two.1,
+        )
 
-    -- the row was not read
-    pub nodes-failed : (set : List (ℕ × ℕ)) (e : CursorFault) → set ≡ upto_pairs h.versions → RowRead set s u (Err e) → NodesRead name h (folder_of s) (folder_of u) (Err e)
-    nodes-failed set e own r = record {
-      same_files = r.reads.same_files;
-      same_draft = r.reads.same_draft;
-      later = r.reads.later;
-      cause = r.reads.cause;
-      pulls = pulls-all (Some e) r.reads;
-      formed = tt;
-      lies = λ bytes front. tt;
-      found = λ bytes front ks lie. r.found bytes (told-here bytes front) ks (u64_bytes (end_length (upto_pairs h.versions) ks)) (row-here bytes (u64_bytes (end_length (upto_pairs h.versions) ks)) ks set own lie);
-      whole = λ files told. tt;
-    }
+    right-sound : (ks : PlainNodes) → IsTrue (goes_on (root_frame h.rules set GREATEST_DEPTH) ks) → IsTrue (are_parts (members set) (node_sets (members set) ks)) → IsTrue (is_sound_archive h.rules (archive_with h ks))
+    right-sound ks goes parts =
+        law ks
+        ∙ and_from (goes_on (root_frame h.rules (upto_pairs h.versions) GREATEST_DEPTH) ks) (are_parts (range_with_len 1 h.versions) (node_sets (range_with_len 1 h.versions) ks))
+        (subst (λ (z : List (ℕ × ℕ)). IsTrue (goes_on (root_frame h.rules z GREATEST_DEPTH) ks)) own goes)
+        (subst (λ (ns : List ℕ). IsTrue (are_parts ns (node_sets ns ks))) numbers parts)
 
-  module _ (t u : Seen) (set : List (ℕ × ℕ)) (own : set ≡ upto_pairs h.versions) (nodes : Vec ANode Global) (n : ℕ) (row : RowRead set s t (Ok (nodes, n))) where
-    -- nodes that lie there are those that were read, and the length of the END's body is at hand
-    tail-here : (bytes : List ℕ) → Told s bytes → (ks : PlainNodes) → NodesLie h ks bytes → (nodes_view nodes.items ≡ ks) × (at_hand t bytes ≡ u64_bytes n)
-    tail-here bytes told ks lie =
-        let rest = u64_bytes (end_length (upto_pairs h.versions) ks) in
-        let x = row.found bytes told ks rest (row-here bytes rest ks set own lie) in
-        let y = row.lies bytes told in
-        let long : n ≡ end_length (upto_pairs h.versions) ks = y.1 ∙ ap (λ (z : List (ℕ × ℕ)). end_length z (nodes_view nodes.items)) own ∙ ap (end_length (upto_pairs h.versions)) x.0 in
-        (x.0, x.1 ∙ ap u64_bytes (sym long))
+    module _ (u : Seen) where
+      pulls-all : (e : Option CursorFault) → Reads s u e → PullsAtMost (h.length - h.first) s.numbers u.numbers
+      pulls-all e reads =
+          let at = ap (λ (c : PlainCursor). c.at) is in
+          let end = ap (λ (c : PlainCursor). c.length) is in
+          let all = pull-all s u e reads.within reads.same_length in
+          PullsAtMost-more (may_pull s u e) (h.length - h.first) s.numbers u.numbers (omega (arith, all, at, end)) reads.pulls
 
-    pub nodes-read : FinishRead n t u (Ok tt) → NodesRead name h (folder_of s) (folder_of u) (Ok nodes)
-    nodes-read f =
-        let reads = reads-then s t u None row.reads f.reads in
-        record {
-          same_files = reads.same_files;
-          same_draft = reads.same_draft;
-          later = reads.later;
-          cause = tt;
-          pulls = pulls-all u None reads;
-          formed = row.formed;
-          lies = λ bytes front. (
-              let told = told-here bytes front in
-              let y = row.lies bytes told in
-              let tail = f.lies bytes (told-on s t None bytes row.reads told) in
-              let ks = nodes_view nodes.items in
-              let long : n ≡ end_length (upto_pairs h.versions) ks = y.1 ∙ ap (λ (z : List (ℕ × ℕ)). end_length z ks) own in
-              subst (λ (z : List ℕ). RowAt (upto_pairs h.versions) ks z deepest (drop h.first bytes)) (tail ∙ ap u64_bytes long) (row-back bytes (at_hand t bytes) ks set own y.0));
-          found = λ bytes front ks lie. (tail-here bytes (told-here bytes front) ks lie).0;
-          whole = λ files told. (
-              let there = f.whole files (row.reads.same_files ∙ told) in
-              let long : t.cursor.length ≡ h.length = row.reads.same_length ∙ ap (λ (c : PlainCursor). c.length) is in
-              let named : t.cursor.name ≡ name = row.reads.same_name ∙ ap (λ (c : PlainCursor). c.name) is in
-              subst (λ (x : List ℕ). h.length ≤ length (bytes_or_none (map.get files x))) named (subst (λ (x : ℕ). x ≤ length (bytes_or_none (map.get files t.cursor.name))) long there));
-        }
+      -- the row was not judged to its END
+      pub nodes-failed : (e : CursorFault) → RootJudged h.rules set s u (Err e) → NodesJudged name h (folder_of s) (folder_of u) (Err e)
+      nodes-failed e r = record {
+        same_files = r.reads.same_files;
+        same_draft = r.reads.same_draft;
+        later = r.reads.later;
+        cause = r.reads.cause;
+        pulls = pulls-all (Some e) r.reads;
+        lies = λ bytes front. tt;
+        found = λ bytes front ks lie sound. (let rest = u64_bytes (end_length (upto_pairs h.versions) ks) in r.found bytes (told-here bytes front) ks rest (row-here bytes rest ks set own lie) (sound-right ks sound));
+        whole = λ files told. tt;
+      }
 
-    pub nodes-unfinished : (e : CursorFault) → FinishRead n t u (Err e) → NodesRead name h (folder_of s) (folder_of u) (Err e)
-    nodes-unfinished e f =
-        let reads = reads-then s t u (Some e) row.reads f.reads in
-        record {
-          same_files = reads.same_files;
-          same_draft = reads.same_draft;
-          later = reads.later;
-          cause = reads.cause;
-          pulls = pulls-all u (Some e) reads;
-          formed = tt;
-          lies = λ bytes front. tt;
-          found = λ bytes front ks lie. (let told = told-here bytes front in f.found bytes (told-on s t None bytes row.reads told) (tail-here bytes told ks lie).1);
-          whole = λ files told. tt;
-        }
+    module _ (t u : Seen) (n : ℕ) (row : RootJudged h.rules set s t (Ok n)) where
+      row-root : (bytes : List ℕ) → Told s bytes → (x : PlainNodes) × RowAt set x (at_hand t bytes) (left_of s) (at_hand s bytes) × (n ≡ end_length (upto_pairs h.versions) x) × IsTrue (is_sound_archive h.rules (archive_with h x))
+      row-root bytes told =
+          let y = row.lies bytes told in
+          let x = y.1 in (
+            x.nodes,
+            x.lies,
+            x.long ∙ ap (λ (z : List (ℕ × ℕ)). end_length z x.nodes) own,
+            right-sound x.nodes x.right y.2,
+          )
+
+      -- nodes that lie there are those that were judged, and the length of the END's body is at hand
+      tail-here : (bytes : List ℕ) → Told s bytes → (ks : PlainNodes) → NodesLie h ks bytes → at_hand t bytes ≡ u64_bytes n
+      tail-here bytes told ks lie =
+          let rest = u64_bytes (end_length (upto_pairs h.versions) ks) in
+          let x = (row.lies bytes told).1 in
+          let only = x.only ks rest (row-here bytes rest ks set own lie) in
+          let long : n ≡ end_length (upto_pairs h.versions) ks = x.long ∙ ap (λ (z : List (ℕ × ℕ)). end_length z x.nodes) own ∙ ap (end_length (upto_pairs h.versions)) only.0 in
+          only.1 ∙ ap u64_bytes (sym long)
+
+      nodes-read : FinishRead n t u (Ok tt) → NodesJudged name h (folder_of s) (folder_of u) (Ok tt)
+      nodes-read f =
+          let reads = reads-then s t u None row.reads f.reads in
+          record {
+            same_files = reads.same_files;
+            same_draft = reads.same_draft;
+            later = reads.later;
+            cause = tt;
+            pulls = pulls-all u None reads;
+            lies = λ bytes front. (
+                let told = told-here bytes front in
+                let y = row-root bytes told in
+                let tail = f.lies bytes (told-on s t None bytes row.reads told) in
+                (y.0, subst (λ (z : List ℕ). RowAt (upto_pairs h.versions) y.0 z deepest (drop h.first bytes)) (tail ∙ ap u64_bytes y.2) (row-back bytes (at_hand t bytes) y.0 set own y.1), y.3));
+            found = λ bytes front ks lie sound. tt;
+            whole = λ files told. (
+                let there = f.whole files (row.reads.same_files ∙ told) in
+                let long : t.cursor.length ≡ h.length = row.reads.same_length ∙ ap (λ (c : PlainCursor). c.length) is in
+                let named : t.cursor.name ≡ name = row.reads.same_name ∙ ap (λ (c : PlainCursor). c.name) is in
+                subst (λ (x : List ℕ). h.length ≤ length (bytes_or_none (map.get files x))) named (subst (λ (x : ℕ). x ≤ length (bytes_or_none (map.get files t.cursor.name))) long there));
+          }
+
+      nodes-unfinished : (e : CursorFault) → FinishRead n t u (Err e) → NodesJudged name h (folder_of s) (folder_of u) (Err e)
+      nodes-unfinished e f =
+          let reads = reads-then s t u (Some e) row.reads f.reads in
+          record {
+            same_files = reads.same_files;
+            same_draft = reads.same_draft;
+            later = reads.later;
+            cause = reads.cause;
+            pulls = pulls-all u (Some e) reads;
+            lies = λ bytes front. tt;
+            found = λ bytes front ks lie sound. (let told = told-here bytes front in f.found bytes (told-on s t None bytes row.reads told) (tail-here bytes told ks lie));
+            whole = λ files told. tt;
+          }
+
+      -- the end of the file was read or not
+      pub nodes-judged : (r : Result (Unit {0}) CursorFault) → FinishRead n t u r → NodesJudged name h (folder_of s) (folder_of u) r
+      nodes-judged (Ok x) f = nodes-read f
+      nodes-judged (Err e) f = nodes-unfinished e f
 
 -- there is no memory to begin with
-pub nodes-memory : (name : List ℕ) (h : PlainHeader) (s : FolderSeen) → IsMeter s.numbers → NodesRead name h s s (Err Memory)
+pub nodes-memory : (name : List ℕ) (h : PlainHeader) (s : FolderSeen) → IsMeter s.numbers → NodesJudged name h s s (Err Memory)
 nodes-memory name h s meter = record {
   same_files = refl;
   same_draft = refl;
   later = omega arith;
   cause = tt;
   pulls = PullsAtMost-none (h.length - h.first) s.numbers meter;
-  formed = tt;
   lies = λ bytes front. tt;
-  found = λ bytes front ks lie. tt;
+  found = λ bytes front ks lie sound. tt;
   whole = λ files told. tt;
 }

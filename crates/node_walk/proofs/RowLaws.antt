@@ -1,24 +1,26 @@
 -- The nodes of a row, one after another.
-use Rattle.std.proofs.Common.{◌≡◌, ℕ, ◌+◌, ◌-◌, ◌^◌, ◌<◌, ◌≤◌, List, [], ◌∷◌, ◌++◌, map, drop, length, Some, None, Result, Ok, Err, Vec, refl, sym, ap, subst, ◌∙◌, append_assoc, arith}
-use Rattle.std.specs.declared.alloc.Global.{Global}
+use Rattle.std.proofs.Common.{◌≡◌, ℕ, ◌+◌, ◌-◌, ◌^◌, ◌<◌, ◌≤◌, Bool, true, ◌&&◌, IsTrue, List, [], ◌∷◌, ◌++◌, map, drop, length, Option, Some, None, Result, Ok, Err, refl, sym, ap, subst, ◌∙◌, append_assoc, arith}
 use Rattle.std.specs.List.{flat_map}
+use Rattle.std.proofs.lemmas.Bool.{and_parts}
 use Rattle.std.proofs.lemmas.List.{append-nil, length-append, length-drop}
-use Rattle.archive_tree.specs.Data.{PlainNode, PlainNodes, no_nodes, node, nodes_list, nodes_from, node_stamp}
-use Rattle.archive_tree.specs.View.{node_view, nodes_view}
-use Rattle.archive_tree.specs.WellFormed.{is_node_well_formed, are_nodes_well_formed, AreNodesWellFormed}
-use Rattle.archive_tree.specs.declared.node.ANode.{ANode}
-use Rattle.archive_tree.proofs.Parts.{nodes_list-nodes_from}
+use Rattle.version_set.specs.View.{pairs_of}
+use Rattle.version_set.specs.declared.set.VersionSet.{VersionSet}
+use Rattle.keyed_tree.specs.Data.{PlainLabel}
+use Rattle.archive_tree.specs.Data.{Stamp, PlainNode, PlainNodes, no_nodes, node, nodes_list, nodes_from, node_label, node_stamp}
+use Rattle.archive_tree.specs.View.{stamp_view}
+use Rattle.archive_tree.proofs.Parts.{nodes_list-nodes_from, nodes_from-nodes_list}
 use Rattle.xa_outside.specs.Numbers.{PullsAtMost}
 use Rattle.xa_outside.specs.NumberLaws.{PullsAtMost-of, PullsAtMost-more, PullsAtMost-trans}
 use Rattle.record_parts.specs.Bounds.{deepest, IsSet}
+use Rattle.record_parts.specs.ShownViews.{label_in}
 use Rattle.record_format.specs.Bounds.{IsRec}
 use Rattle.record_format.specs.Data.{PlainDir, end_rec}
-use Rattle.record_format.specs.Nodes.{piece_bytes, entries_from, dir_of, closed_by_end, node_piece, node_pieces}
+use Rattle.record_format.specs.Nodes.{Piece, piece_bytes, entries_from, dir_of, closed_by_end, node_piece, node_pieces}
 use Rattle.record_format.specs.Spelling.{dir_bytes, framed, rec_bytes}
 use Rattle.record_format.proofs.Pieces.{one-record}
 use Rattle.archive_file.specs.Laid.{dir_with, NodeAt, RowAt}
 use Rattle.archive_file.proofs.FileLaws.{few-from}
-use Rattle.archive_file.proofs.GoesLaws.{both-hold, lt-of}
+use Rattle.archive_file.proofs.GoesLaws.{lt-of}
 use Rattle.archive_file.proofs.LaidLaws.{RowLeft, NodesAt, then-node, row-start, end_of}
 use Rattle.archive_file.proofs.ReadLaws.{RowDone, row-none, row-more, dir-is, row-shut}
 use Rattle.record_cursor.specs.Faults.{IfDamage, IfFolder}
@@ -28,12 +30,13 @@ use Rattle.record_cursor.specs.Steps.{fault_of}
 use Rattle.record_cursor.specs.declared.fault.CursorFault.{CursorFault}
 use Rattle.record_cursor.specs.declared.fault.CursorFault.TheVariants.{Damage, Folder, Memory}
 use Rattle.record_cursor.proofs.Fills.{front-length}
+use Rattle.node_judge.specs.Rows.{PlainFrame, behind_kid, is_met_all, is_next, goes_on}
 use Rattle.row_ends.specs.Kids.{PlainKids, AreKids, no_kids, with_kid, row_length, dir_in}
 use Rattle.node_walk.specs.Places.{depth_of, IsAmongNodes, left_of}
 use Rattle.node_walk.specs.Seen.{Seen, Told, at_hand, may_pull, Reads}
-use Rattle.node_walk.specs.Walked.{EndJudged, InRowRead, RowRead, end_length}
-use Rattle.node_walk.specs.declared.rows.InRow.TheVariants.{Node, End}
-use Rattle.node_walk.proofs.Kids.{no-kids-are, kid-more, row-longer, one-more, node-size, end-body-is, kids-dir}
+use Rattle.node_walk.specs.Walked.{EndJudged, InRowJudged, KidHere, RowHere, RowJudged, end_length}
+use Rattle.node_walk.specs.declared.rows.InRow.TheVariants.{Kid, End}
+use Rattle.node_walk.proofs.Kids.{pieces-of, no-kids-are, kid-more, row-longer, one-more, node-size, end-body-is, kids-dir}
 use Rattle.node_walk.proofs.Leaves.{On, on-start, on-then, leads-to}
 use Rattle.node_walk.proofs.Steps.{among-is, cause-later, reads-stop, told-on}
 
@@ -54,30 +57,40 @@ row-over set depth first so_far now h body after is e same few short =
       bytes = h.bytes ∙ ap (λ (z : List ℕ). front ++ z) e ∙ sym (append_assoc front (framed 4 body) after) ∙ ap (λ (z : List ℕ). z ++ after) closed;
     }
 
--- What is left of the nodes that lie there, and what those so far are.
-pub record RowOn (set : List (ℕ × ℕ)) (s0 s : Seen) (so_far : List PlainNode) (kids : PlainKids) : Type 0 where
+-- The nodes so far lie there, and the kids are what is kept of them. What is left of any nodes that lie there comes now, and they
+-- are right where that is right for what is kept of the row.
+pub record RowSoFar (f g : PlainFrame) (kids : PlainKids) (left : ℕ) (first now : List ℕ) : Type 0 where
+  pub done : List PlainNode
+  pub count : length kids.sizes ≡ length done
+  pub lie : RowDone f.set left first done now
+  pub are : AreKids f.set (map (node_piece f.set) done) kids
+  pub rest : (ks : PlainNodes) (after : List ℕ) → RowAt f.set ks after left first → RowLeft f.set ks after left done now
+  pub goes : (ks : PlainNodes) → goes_on f (nodes_from (done ++ nodes_list ks)) ≡ goes_on g ks
+
+pub record RowOn (f g : PlainFrame) (s0 s : Seen) (kids : PlainKids) : Type 0 where
   pub on : On s0 s
   pub stands : s.cursor.standing ≡ among_nodes (depth_of s0.cursor.standing)
+  pub same : g.set ≡ f.set
   pub size : row_length kids.sizes + s0.cursor.at ≡ s.cursor.at
-  pub count : length kids.sizes ≡ length so_far
-  pub formed : (ks : List PlainNode) → AreNodesWellFormed (nodes_from ks) → AreNodesWellFormed (nodes_from (so_far ++ ks))
   pub few : length kids.sizes < 2 ^ 32
-  pub left : (bytes : List ℕ) → Told s0 bytes → (ks : PlainNodes) (rest : List ℕ) → RowAt set ks rest (left_of s0) (at_hand s0 bytes) → RowLeft set ks rest (left_of s0) so_far (at_hand s bytes)
-  pub lie : (bytes : List ℕ) → Told s0 bytes → RowDone set (left_of s0) (at_hand s0 bytes) so_far (at_hand s bytes)
-  pub are : (bytes : List ℕ) → Told s0 bytes → AreKids set (map (node_piece set) so_far) kids
+  pub so_far : (bytes : List ℕ) → Told s0 bytes → RowSoFar f g kids (left_of s0) (at_hand s0 bytes) (at_hand s bytes)
 
-pub row-begins : (set : List (ℕ × ℕ)) (s : Seen) → s.cursor.at ≤ s.cursor.length → IsAmongNodes s.cursor.standing → RowOn set s s [] no_kids
-row-begins set s within among = record {
+pub row-begins : (f : PlainFrame) (s : Seen) (kids : PlainKids) → kids ≡ no_kids → s.cursor.at ≤ s.cursor.length → IsAmongNodes s.cursor.standing → RowOn f f s s kids
+row-begins f s kids none within among = subst (RowOn f f s s) (sym none) (record {
   on = on-start s within;
   stands = among-is s.cursor.standing among;
+  same = refl;
   size = omega arith;
-  count = refl;
   few = omega arith;
-  formed = λ ks h. h;
-  left = λ bytes told ks rest h. row-start set ks rest (left_of s) (at_hand s bytes) h;
-  lie = λ bytes told. row-none set (left_of s) (at_hand s bytes);
-  are = λ bytes told. no-kids-are set;
-}
+  so_far = λ bytes told. record {
+    done = [];
+    count = refl;
+    lie = row-none f.set (left_of s) (at_hand s bytes);
+    are = no-kids-are f.set;
+    rest = λ ks after row. row-start f.set ks after (left_of s) (at_hand s bytes) row;
+    goes = λ ks. ap (goes_on f) (nodes_from-nodes_list ks);
+  };
+})
 
 -- ---- what stands first of those that are left
 
@@ -85,120 +98,144 @@ row-begins set s within among = record {
 pub end-first : (set : List (ℕ × ℕ)) (ks : PlainNodes) (rest : List ℕ) (depth : ℕ) (now : List ℕ) → NodesAt set (end_of set ks) no_nodes rest depth now → IsRec (end_of set ks) × (now ≡ rec_bytes (end_of set ks) ++ rest)
 end-first set ks rest depth now h = (h.records.0, h.bytes ∙ ap (λ (z : List ℕ). z ++ rest) (one-record (end_of set ks)))
 
-module _ (set : List (ℕ × ℕ)) (s0 s t : Seen) (so_far : List PlainNode) (kids : PlainKids) (k : RowOn set s0 s so_far kids) where
+module _ (f g : PlainFrame) (s0 s t : Seen) (kids : PlainKids) (k : RowOn f g s0 s kids) where
   abbrev d : ℕ
   d = depth_of s0.cursor.standing
 
   same-left : left_of s ≡ left_of s0
   same-left = ap (λ (p : Standing). deepest - depth_of p) k.stands
 
-  -- a node was read, which is the first of those that are left
-  left-on : (ks : PlainNodes) (rest now after : List ℕ) (j : PlainNode) (left : PlainNodes) → ks ≡ nodes_from (so_far ++ nodes_list left) → NodesAt set (end_of set ks) left rest (left_of s0) now
-      → ((dir : PlainDir) (r : List ℕ) → IsRec (end_rec dir) → now ≡ rec_bytes (end_rec dir) ++ r → ⊥) → ((i : PlainNode) (r : List ℕ) → NodeAt set i r (left_of s0) now → (j ≡ i) × (after ≡ r)) → RowLeft set ks rest (left_of s0) (so_far ++ j ∷ []) after
-  left-on ks rest now after j no_nodes split h no_end one = (let e = end-first set ks rest (left_of s0) now h in absurd (no_end (dir_of (node_pieces set ks)) rest e.0 e.1))
-  left-on ks rest now after j (node i left) split h no_end one =
-      let x = then-node set (end_of set ks) i left rest (left_of s0) now h in
-      let same = one i x.behind x.lies in
-      record {
-        left = left;
-        split = split ∙ ap (λ (y : PlainNode). nodes_from (so_far ++ y ∷ nodes_list left)) (sym same.0) ∙ ap nodes_from (sym (append_assoc so_far (j ∷ []) (nodes_list left)));
-        lies = subst (λ (y : List ℕ). NodesAt set (end_of set ks) left rest (left_of s0) y) (sym same.1) x.others;
-      }
+  pub stays-among : IsAmongNodes s.cursor.standing
+  stays-among = subst IsAmongNodes (sym k.stands) tt
 
-  -- the END was passed over, so no nodes are left
-  left-none : (ks : PlainNodes) (rest now after : List ℕ) (n : ℕ) (left : PlainNodes) → ks ≡ nodes_from (so_far ++ nodes_list left) → NodesAt set (end_of set ks) left rest (left_of s0) now
-      → ((dir : PlainDir) (r : List ℕ) → IsRec (end_rec dir) → now ≡ rec_bytes (end_rec dir) ++ r → (n ≡ length (dir_bytes dir)) × (after ≡ r)) → ((i : PlainNode) (r : List ℕ) → NodeAt set i r (left_of s0) now → ⊥)
-      → (nodes_from so_far ≡ ks) × (after ≡ rest) × (now ≡ rec_bytes (end_of set ks) ++ rest) × (n ≡ length (dir_bytes (dir_of (node_pieces set ks))))
-  left-none ks rest now after n no_nodes split h end no_one =
-      let e = end-first set ks rest (left_of s0) now h in
-      let same = end (dir_of (node_pieces set ks)) rest e.0 e.1 in
-      (sym (split ∙ ap nodes_from (append-nil so_far)), same.1, e.1, same.0)
-  left-none ks rest now after n (node i left) split h end no_one = (let x = then-node set (end_of set ks) i left rest (left_of s0) now h in absurd (no_one i x.behind x.lies))
-
-  -- one of both comes
-  left-comes : (ks : PlainNodes) (rest now : List ℕ) (left : PlainNodes) (P : Type 0) → NodesAt set (end_of set ks) left rest (left_of s0) now
-      → ((dir : PlainDir) (r : List ℕ) → IsRec (end_rec dir) → now ≡ rec_bytes (end_rec dir) ++ r → P) → ((i : PlainNode) (r : List ℕ) → NodeAt set i r (left_of s0) now → P) → P
-  left-comes ks rest now no_nodes P h end one = (let e = end-first set ks rest (left_of s0) now h in end (dir_of (node_pieces set ks)) rest e.0 e.1)
-  left-comes ks rest now (node i left) P h end one = (let x = then-node set (end_of set ks) i left rest (left_of s0) now h in one i x.behind x.lies)
-
-  at-start : (bytes rest : List ℕ) (i : PlainNode) → NodeAt set i rest (left_of s0) (at_hand s bytes) → NodeAt set i rest (left_of s) (at_hand s bytes)
-  at-start bytes rest i h = subst (λ (n : ℕ). NodeAt set i rest n (at_hand s bytes)) (sym same-left) h
+  -- a node that lies there, for what is kept now
+  at-start : (bytes after : List ℕ) (i : PlainNode) → NodeAt f.set i after (left_of s0) (at_hand s bytes) → NodeAt g.set i after (left_of s) (at_hand s bytes)
+  at-start bytes after i h =
+      subst (λ (set : List (ℕ × ℕ)). NodeAt set i after (left_of s) (at_hand s bytes)) (sym k.same)
+      (subst (λ (n : ℕ). NodeAt f.set i after n (at_hand s bytes)) (sym same-left) h)
 
   -- ---- a node
 
-  module _ (j : ANode) (dir : ℕ) (h : InRowRead set s t (Ok (Node j dir))) where
-    lies-here : (bytes : List ℕ) → Told s0 bytes → NodeAt set (node_view j) (at_hand t bytes) (left_of s0) (at_hand s bytes)
-    lies-here bytes told = subst (λ (n : ℕ). NodeAt set (node_view j) (at_hand t bytes) n (at_hand s bytes)) same-left (h.lies bytes (k.on.told bytes told)).0
+  module _ (l : Option PlainLabel) (v : Option VersionSet) (n : ℕ) (h : InRowJudged g l s t (Ok (Kid v n))) where
+    there : (bytes : List ℕ) → Told s0 bytes → Told s bytes
+    there bytes told = k.on.told bytes told
 
-    left-here : (bytes : List ℕ) → Told s0 bytes → (ks : PlainNodes) (rest : List ℕ) → RowAt set ks rest (left_of s0) (at_hand s0 bytes) → RowLeft set ks rest (left_of s0) (so_far ++ node_view j ∷ []) (at_hand t bytes)
-    left-here bytes told ks rest row =
-        let l = k.left bytes told ks rest row in
-        let there = k.on.told bytes told in
-        left-on ks rest (at_hand s bytes) (at_hand t bytes) (node_view j) l.left l.split l.lies (λ e r is bytes_are. (h.ended bytes there e r is bytes_are).0) (λ i r lies. h.node bytes there i r (at-start bytes r i lies))
+    kid-here : (bytes : List ℕ) → Told s0 bytes → KidHere g (label_in l) (stamp_view v) n (left_of s) (at_hand s bytes) (at_hand t bytes)
+    kid-here bytes told = h.lies bytes (there bytes told)
 
-    pub row-kept : (more : PlainKids) → more ≡ with_kid kids (t.cursor.at - s.cursor.at) dir (node_stamp (node_view j)) → length more.sizes < 2 ^ 32 → RowOn set s0 t (so_far ++ node_view j ∷ []) more
+    lies-here : (bytes : List ℕ) (told : Told s0 bytes) → NodeAt f.set (kid-here bytes told).kid (at_hand t bytes) (left_of s0) (at_hand s bytes)
+    lies-here bytes told =
+        let x = kid-here bytes told in
+        subst (λ (depth : ℕ). NodeAt f.set x.kid (at_hand t bytes) depth (at_hand s bytes)) same-left
+        (subst (λ (set : List (ℕ × ℕ)). NodeAt set x.kid (at_hand t bytes) (left_of s) (at_hand s bytes)) k.same x.lies)
+
+    -- it is the first of those that are left
+    left-on : (bytes : List ℕ) (told : Told s0 bytes) (ks : PlainNodes) (after : List ℕ) (done : List PlainNode) (left : PlainNodes) → ks ≡ nodes_from (done ++ nodes_list left) → NodesAt f.set (end_of f.set ks) left after (left_of s0) (at_hand s bytes)
+        → RowLeft f.set ks after (left_of s0) (done ++ (kid-here bytes told).kid ∷ []) (at_hand t bytes)
+    left-on bytes told ks after done no_nodes split lies =
+        let e = end-first f.set ks after (left_of s0) (at_hand s bytes) lies in
+        absurd (h.ended bytes (there bytes told) (dir_of (node_pieces f.set ks)) after e.0 e.1).0
+    left-on bytes told ks after done (node i left) split lies =
+        let x = then-node f.set (end_of f.set ks) i left after (left_of s0) (at_hand s bytes) lies in
+        let kid = (kid-here bytes told).kid in
+        let same = (kid-here bytes told).only i x.behind (at-start bytes x.behind i x.lies) in
+        record {
+          left = left;
+          split = split ∙ ap (λ (y : PlainNode). nodes_from (done ++ y ∷ nodes_list left)) (sym same.0) ∙ ap nodes_from (sym (append_assoc done (kid ∷ []) (nodes_list left)));
+          lies = subst (λ (y : List ℕ). NodesAt f.set (end_of f.set ks) left after (left_of s0) y) (sym same.1) x.others;
+        }
+
+    left-here : (bytes : List ℕ) (told : Told s0 bytes) (ks : PlainNodes) (after : List ℕ) → RowAt f.set ks after (left_of s0) (at_hand s0 bytes)
+        → RowLeft f.set ks after (left_of s0) ((k.so_far bytes told).done ++ (kid-here bytes told).kid ∷ []) (at_hand t bytes)
+    left-here bytes told ks after row = (let x = k.so_far bytes told in let left = x.rest ks after row in left-on bytes told ks after x.done left.left left.split left.lies)
+
+    -- the row is right behind it where it was before it
+    goes-here : (bytes : List ℕ) (told : Told s0 bytes) (ks : PlainNodes) → goes_on f (nodes_from (((k.so_far bytes told).done ++ (kid-here bytes told).kid ∷ []) ++ nodes_list ks)) ≡ goes_on (behind_kid g (label_in l)) ks
+    goes-here bytes told ks =
+        let x = k.so_far bytes told in
+        let y = kid-here bytes told in
+        ap (λ (js : List PlainNode). goes_on f (nodes_from js)) (append_assoc x.done (y.kid ∷ []) (nodes_list ks))
+        ∙ x.goes (node y.kid ks)
+        ∙ ap (λ (b : Bool). b && goes_on (behind_kid g (node_label y.kid)) ks) y.right
+        ∙ ap (λ (m : PlainLabel). goes_on (behind_kid g m) ks) y.label
+
+    pub row-kept : (more : PlainKids) → more ≡ with_kid kids (t.cursor.at - s.cursor.at) n (stamp_view v) → length more.sizes < 2 ^ 32 → RowOn f (behind_kid g (label_in l)) s0 t more
     row-kept more is few =
         let reads = h.reads in
         let onward = reads.onward in
         let within = reads.within in
         let size = k.size in
-        let count = k.count in
-        let n = t.cursor.at - s.cursor.at in
+        let m = t.cursor.at - s.cursor.at in
         record {
           on = on-then s0 s t k.on reads;
-          stands = h.behind.0 ∙ k.stands;
-          size = omega (arith, ap (λ (x : PlainKids). row_length x.sizes) is, row-longer kids n dir (node_stamp (node_view j)), size, onward);
-          count = omega (arith, ap (λ (x : PlainKids). length x.sizes) is, one-more kids n dir (node_stamp (node_view j)), length-append so_far (node_view j ∷ []), count);
+          stands = h.behind.1 ∙ k.stands;
+          same = k.same;
+          size = omega (arith, ap (λ (x : PlainKids). row_length x.sizes) is, row-longer kids m n (stamp_view v), size, onward);
           few = few;
-          formed = λ ks g. subst (λ (z : List PlainNode). AreNodesWellFormed (nodes_from z)) (sym (append_assoc so_far (node_view j ∷ []) ks))
-              (k.formed (node_view j ∷ ks) (both-hold (is_node_well_formed (node_view j)) (are_nodes_well_formed (nodes_from ks)) h.formed g));
-          left = left-here;
-          lie = λ bytes told. row-more set (left_of s0) (at_hand s0 bytes) so_far (at_hand s bytes) (k.lie bytes told) (node_view j) (at_hand t bytes) (lies-here bytes told);
-          are = λ bytes told. subst (AreKids set (map (node_piece set) (so_far ++ node_view j ∷ []))) (sym is)
-              (kid-more set so_far kids (node_view j) n dir (k.are bytes told) (node-size s t bytes set (node_view j) (left_of s0) (told-on s t None bytes reads (k.on.told bytes told)) onward within (lies-here bytes told)) (h.lies bytes (k.on.told bytes told)).1);
+          so_far = λ bytes told. (
+              let x = k.so_far bytes told in
+              let y = kid-here bytes told in
+              let count = x.count in
+              let size_is = node-size s t bytes f.set y.kid (left_of s0) (told-on s t None bytes reads (there bytes told)) onward within (lies-here bytes told) in
+              let kept = kid-more f.set x.done kids y.kid m n x.are size_is (y.long ∙ ap (λ (set : List (ℕ × ℕ)). (node_piece set y.kid).dir) k.same) in
+              record {
+                done = x.done ++ y.kid ∷ [];
+                count = omega (arith, ap (λ (z : PlainKids). length z.sizes) is, one-more kids m n (stamp_view v), length-append x.done (y.kid ∷ []), count);
+                lie = row-more f.set (left_of s0) (at_hand s0 bytes) x.done (at_hand s bytes) x.lie y.kid (at_hand t bytes) (lies-here bytes told);
+                are = subst (AreKids f.set (map (node_piece f.set) (x.done ++ y.kid ∷ []))) (ap (λ (a : Stamp). with_kid kids m n a) y.stamp ∙ sym is) kept;
+                rest = λ ks after row. left-here bytes told ks after row;
+                goes = goes-here bytes told;
+              });
         }
 
     -- as many as an END can count are too many with this one
-    too-many : (bytes : List ℕ) → Told s0 bytes → 2 ^ 32 ≤ length kids.sizes + 1 → (ks : PlainNodes) (rest : List ℕ) → RowAt set ks rest (left_of s0) (at_hand s0 bytes) → ⊥
-    too-many bytes told many ks rest row =
-        let l = left-here bytes told ks rest row in
-        let few = lt-of (length (nodes_list ks)) (2 ^ 32) (few-from set ks row.records) in
-        let all = ap (λ (z : PlainNodes). length (nodes_list z)) l.split ∙ ap length (nodes_list-nodes_from ((so_far ++ node_view j ∷ []) ++ nodes_list l.left)) in
-        let count = k.count in
-        omega (arith, many, few, all, length-append (so_far ++ node_view j ∷ []) (nodes_list l.left), length-append so_far (node_view j ∷ []), count)
+    too-many : (bytes : List ℕ) → Told s0 bytes → 2 ^ 32 ≤ length kids.sizes + 1 → (ks : PlainNodes) (after : List ℕ) → RowAt f.set ks after (left_of s0) (at_hand s0 bytes) → ⊥
+    too-many bytes told many ks after row =
+        let x = k.so_far bytes told in
+        let kid = (kid-here bytes told).kid in
+        let left = left-here bytes told ks after row in
+        let few = lt-of (length (nodes_list ks)) (2 ^ 32) (few-from f.set ks row.records) in
+        let all = ap (λ (z : PlainNodes). length (nodes_list z)) left.split ∙ ap length (nodes_list-nodes_from ((x.done ++ kid ∷ []) ++ nodes_list left.left)) in
+        let count = x.count in
+        omega (arith, many, few, all, length-append (x.done ++ kid ∷ []) (nodes_list left.left), length-append x.done (kid ∷ []), count)
 
     -- the node was not kept
-    pub row-not-kept : (e : CursorFault) → IfFolder e ⊥ → IfDamage e (2 ^ 32 ≤ length kids.sizes + 1) → RowRead set s0 t (Err e)
-    row-not-kept e inside full = record {
+    pub row-not-kept : (more : PlainKids) (e : CursorFault) → IfFolder e ⊥ → IfDamage e (2 ^ 32 ≤ length kids.sizes + 1) → RowJudged f more s0 t (Err e)
+    row-not-kept more e inside full = record {
       reads = k.on.then t (Some e) (reads-stop s t e inside h.reads);
       behind = tt;
-      formed = tt;
       lies = λ bytes told. tt;
-      found = λ bytes told ks rest row. undamaged e full (λ many. too-many bytes told many ks rest row);
+      found = λ bytes told ks after row right. undamaged e full (λ many. too-many bytes told many ks after row);
     }
       where
-        undamaged : (f : CursorFault) → IfDamage f (2 ^ 32 ≤ length kids.sizes + 1) → ((2 ^ 32 ≤ length kids.sizes + 1) → ⊥) → IfDamage f ⊥
-        undamaged Damage g never = never g
-        undamaged Folder g never = tt
-        undamaged Memory g never = tt
+        undamaged : (e : CursorFault) → IfDamage e (2 ^ 32 ≤ length kids.sizes + 1) → ((2 ^ 32 ≤ length kids.sizes + 1) → ⊥) → IfDamage e ⊥
+        undamaged Damage h never = never h
+        undamaged Folder h never = tt
+        undamaged Memory h never = tt
 
   -- ---- a fault
 
-  pub row-failed : (e : CursorFault) → InRowRead set s t (Err e) → RowRead set s0 t (Err e)
-  row-failed e h = record {
+  -- the next node of those that are left is not right, or there is none and no END comes
+  failed-here : (l : Option PlainLabel) (e : CursorFault) → InRowJudged g l s t (Err e) → (bytes : List ℕ) → Told s bytes → (ks : PlainNodes) (after : List ℕ) (left : PlainNodes) → NodesAt f.set (end_of f.set ks) left after (left_of s0) (at_hand s bytes) → IsTrue (goes_on g left) → IfDamage e ⊥
+  failed-here l e h bytes told ks after no_nodes lies right = (let x = end-first f.set ks after (left_of s0) (at_hand s bytes) lies in h.ended bytes told (dir_of (node_pieces f.set ks)) after x.0 x.1)
+  failed-here l e h bytes told ks after (node i left) lies right =
+      let x = then-node f.set (end_of f.set ks) i left after (left_of s0) (at_hand s bytes) lies in
+      h.node bytes told i x.behind (at-start bytes x.behind i x.lies) (and_parts (is_next g i) (goes_on (behind_kid g (node_label i)) left) right).0
+
+  pub row-failed : (l : Option PlainLabel) (more : PlainKids) (e : CursorFault) → InRowJudged g l s t (Err e) → RowJudged f more s0 t (Err e)
+  row-failed l more e h = record {
     reads = k.on.then t (Some e) h.reads;
     behind = tt;
-    formed = tt;
     lies = λ bytes told. tt;
-    found = λ bytes told ks rest row. (
-        let l = k.left bytes told ks rest row in
-        let there = k.on.told bytes told in
-        left-comes ks rest (at_hand s bytes) l.left (IfDamage e ⊥) l.lies (λ dir r is are. h.ended bytes there dir r is are) (λ i r lies. h.node bytes there i r (at-start bytes r i lies)));
+    found = λ bytes told ks after row right. (
+        let x = k.so_far bytes told in
+        let left = x.rest ks after row in
+        failed-here l e h bytes (k.on.told bytes told) ks after left.left left.lies (sym (x.goes left.left) ∙ ap (goes_on f) (sym left.split) ∙ right));
   }
 
   -- ---- the END
 
-  module _ (n : ℕ) (h : InRowRead set s t (Ok (End n))) (u : Seen) (same : u.cursor ≡ t.cursor) where
+  module _ (l : Option PlainLabel) (n : ℕ) (h : InRowJudged g l s t (Ok (End n))) (u : Seen) (same : u.cursor ≡ t.cursor) where
     -- what was read for the END and its body
     all-read : PullsAtMost n t.numbers u.numbers → PullsAtMost (t.cursor.at - s.cursor.at) s.numbers u.numbers
     all-read pulls =
@@ -206,7 +243,7 @@ module _ (set : List (ℕ × ℕ)) (s0 s t : Seen) (so_far : List PlainNode) (ki
         let moved = g.moved in
         PullsAtMost-more (9 + n) (t.cursor.at - s.cursor.at) s.numbers u.numbers (omega (arith, moved)) (PullsAtMost-trans 9 n s.numbers t.numbers u.numbers (PullsAtMost-of 9 9 s.numbers t.numbers (omega arith) g.pulled) pulls)
 
-    judged-reads : (r : Result (Unit {0}) CursorFault) → EndJudged set kids n t u r → Reads s u (fault_of r)
+    judged-reads : (r : Result (Unit {0}) CursorFault) → EndJudged g kids n t u r → Reads s u (fault_of r)
     judged-reads r e =
         let reads = h.reads in
         let at = ap (λ c. c.at) same in
@@ -229,68 +266,90 @@ module _ (set : List (ℕ × ℕ)) (s0 s t : Seen) (so_far : List PlainNode) (ki
         pulled (Ok x) p = (let at = ap (λ c. c.at) same in PullsAtMost-more (t.cursor.at - s.cursor.at) (u.cursor.at - s.cursor.at) s.numbers u.numbers (omega (arith, at)) p)
         pulled (Err f) p = (let reads = h.reads in let within = reads.within in let long = reads.same_length in PullsAtMost-more (t.cursor.at - s.cursor.at) (s.cursor.length - s.cursor.at) s.numbers u.numbers (omega (arith, within, long)) p)
 
-    there : (bytes : List ℕ) → Told s0 bytes → Told t bytes
-    there bytes told = told-on s t None bytes h.reads (k.on.told bytes told)
+    told-behind : (bytes : List ℕ) → Told s0 bytes → Told t bytes
+    told-behind bytes told = told-on s t None bytes h.reads (k.on.told bytes told)
+
+    -- no nodes are left
+    left-none : (bytes : List ℕ) → Told s bytes → (ks : PlainNodes) (after : List ℕ) (done : List PlainNode) (left : PlainNodes) → ks ≡ nodes_from (done ++ nodes_list left) → NodesAt f.set (end_of f.set ks) left after (left_of s0) (at_hand s bytes)
+        → (nodes_from done ≡ ks) × (at_hand t bytes ≡ after) × (at_hand s bytes ≡ rec_bytes (end_of f.set ks) ++ after) × (n ≡ length (dir_bytes (dir_of (node_pieces f.set ks))))
+    left-none bytes told ks after done no_nodes split lies =
+        let e = end-first f.set ks after (left_of s0) (at_hand s bytes) lies in
+        let x = h.ended bytes told (dir_of (node_pieces f.set ks)) after e.0 e.1 in
+        (sym (split ∙ ap nodes_from (append-nil done)), x.1, e.1, x.0)
+    left-none bytes told ks after done (node i left) split lies =
+        let x = then-node f.set (end_of f.set ks) i left after (left_of s0) (at_hand s bytes) lies in
+        absurd (h.node bytes told i x.behind (at-start bytes x.behind i x.lies))
 
     -- the END of nodes that lie there is the one that was passed over
-    ends-there : (bytes : List ℕ) → Told s0 bytes → (ks : PlainNodes) (rest : List ℕ) → RowAt set ks rest (left_of s0) (at_hand s0 bytes) → (nodes_from so_far ≡ ks) × (at_hand t bytes ≡ rest) × (at_hand s bytes ≡ rec_bytes (end_of set ks) ++ rest) × (n ≡ length (dir_bytes (dir_of (node_pieces set ks))))
-    ends-there bytes told ks rest row =
-        let l = k.left bytes told ks rest row in
-        let now = k.on.told bytes told in
-        left-none ks rest (at_hand s bytes) (at_hand t bytes) n l.left l.split l.lies (λ dir r is are. h.ended bytes now dir r is are) (λ i r lies. (h.node bytes now i r (at-start bytes r i lies)).0)
+    ends-there : (bytes : List ℕ) (told : Told s0 bytes) (ks : PlainNodes) (after : List ℕ) → RowAt f.set ks after (left_of s0) (at_hand s0 bytes)
+        → (nodes_from (k.so_far bytes told).done ≡ ks) × (at_hand t bytes ≡ after) × (at_hand s bytes ≡ rec_bytes (end_of f.set ks) ++ after) × (n ≡ length (dir_bytes (dir_of (node_pieces f.set ks))))
+    ends-there bytes told ks after row = (let x = k.so_far bytes told in let left = x.rest ks after row in left-none bytes (k.on.told bytes told) ks after x.done left.left left.split left.lies)
 
-    after : (bytes : List ℕ) → at_hand u bytes ≡ at_hand t bytes
-    after bytes = ap (λ c. drop c.at bytes) same
+    after-end : (bytes : List ℕ) → at_hand u bytes ≡ at_hand t bytes
+    after-end bytes = ap (λ c. drop c.at bytes) same
+
+    -- the nodes so far are right where nothing is waited for any more
+    goes-end : (bytes : List ℕ) (told : Told s0 bytes) → goes_on f (nodes_from (k.so_far bytes told).done) ≡ is_met_all g
+    goes-end bytes told = (let x = k.so_far bytes told in ap (λ (js : List PlainNode). goes_on f (nodes_from js)) (sym (append-nil x.done)) ∙ x.goes no_nodes)
+
+    own-dir : (bytes : List ℕ) (told : Told s0 bytes) → dir_bytes (dir_in g.set kids) ≡ dir_bytes (dir_of (node_pieces f.set (nodes_from (k.so_far bytes told).done)))
+    own-dir bytes told = (let x = k.so_far bytes told in ap (λ (set : List (ℕ × ℕ)). dir_bytes (dir_in set kids)) k.same ∙ ap dir_bytes (kids-dir f.set x.done kids x.are))
+
+    short : (bytes : List ℕ) (told : Told s0 bytes) → EndJudged g kids n t u (Ok tt) → (body : List ℕ) → at_hand s bytes ≡ framed 4 body ++ at_hand t bytes
+        → length (flat_map piece_bytes (map (node_piece f.set) (k.so_far bytes told).done) ++ (framed 4 body ++ [])) < 2 ^ 64
+    short bytes told e body e_is =
+        let x = k.so_far bytes told in
+        let ps = map (node_piece f.set) x.done in
+        let lie = x.lie in
+        let long = front-length t.files t.cursor.name bytes t.cursor.length (told-behind bytes told) in
+        let reads = h.reads in
+        let within = reads.within in
+        let small = e.short in
+        let whole = ap length lie.bytes ∙ length-append (flat_map piece_bytes ps) (at_hand s bytes) in
+        let now = ap length e_is ∙ length-append (framed 4 body) (at_hand t bytes) in
+        let own = length-append (flat_map piece_bytes ps) (framed 4 body ++ []) in
+        let end = length-append (framed 4 body) [] in
+        omega (arith, long, within, small, whole, now, own, end, length-drop s0.cursor.at bytes, length-drop t.cursor.at bytes)
+
+    row-here : (bytes : List ℕ) → Told s0 bytes → IsSet f.set → EndJudged g kids n t u (Ok tt) → RowHere f kids n (left_of s0) (at_hand s0 bytes) (at_hand u bytes)
+    row-here bytes told set_is e =
+        let y = h.lies bytes (k.on.told bytes told) in
+        let body : List ℕ = y.0 in
+        let x = k.so_far bytes told in
+        let count = x.count in
+        let few = k.few in
+        let ps = map (node_piece f.set) x.done in
+        let es = entries_from 0 ps in
+        let own : dir_bytes (dir_of (node_pieces f.set (nodes_from x.done))) ≡ body = sym (own-dir bytes told) ∙ e.lies bytes (told-behind bytes told) ∙ end-body-is s t bytes body (at_hand t bytes) n h.behind y.2 y.1 in
+        let with : dir_bytes (dir_with es f.set (nodes_from x.done)) ≡ body = ap dir_bytes (dir-is f.set (left_of s0) (at_hand s0 bytes) x.done (at_hand s bytes) x.lie es refl) ∙ own in
+        let row = row-over f.set (left_of s0) (at_hand s0 bytes) x.done (at_hand s bytes) x.lie body (at_hand t bytes) set_is y.2 with (omega (arith, count, few)) (short bytes told e body y.2) in
+        record {
+          nodes = nodes_from x.done;
+          lies = subst (λ (z : List ℕ). RowAt f.set (nodes_from x.done) z (left_of s0) (at_hand s0 bytes)) (sym (after-end bytes)) row;
+          only = λ ks after lies. (let z = ends-there bytes told ks after lies in (z.0, after-end bytes ∙ z.1));
+          long = sym y.1 ∙ ap length (sym own);
+          right = goes-end bytes told ∙ e.met;
+          are = subst (λ (qs : List Piece). AreKids f.set qs kids) (sym (pieces-of f.set x.done)) x.are;
+        }
 
     -- the END is that of the nodes
-    pub row-ended : (nodes : Vec ANode Global) → map node_view nodes.items ≡ so_far → IsSet set → EndJudged set kids n t u (Ok tt) → RowRead set s0 u (Ok (nodes, n))
-    row-ended nodes is set_is e = record {
+    pub row-ended : IsSet f.set → EndJudged g kids n t u (Ok tt) → RowJudged f kids s0 u (Ok n)
+    row-ended set_is e = record {
       reads = k.on.then u None (judged-reads (Ok tt) e);
       behind = ap (λ c. c.standing) same ∙ leads-to s t (end_item n) (among_nodes d) (closed_by n d) k.stands refl h.behind;
-      formed = subst (λ (z : List PlainNode). AreNodesWellFormed (nodes_from z)) (append-nil so_far ∙ sym is) (k.formed [] refl);
-      lies = lies;
-      found = λ bytes told ks rest row. (let x = ends-there bytes told ks rest row in (ap nodes_from is ∙ x.0, after bytes ∙ x.1));
+      lies = λ bytes told. row-here bytes told set_is e;
+      found = λ bytes told ks after row right. tt;
     }
-      where
-        short : (bytes : List ℕ) → Told s0 bytes → (body : List ℕ) → at_hand s bytes ≡ framed 4 body ++ at_hand t bytes → length (flat_map piece_bytes (map (node_piece set) so_far) ++ (framed 4 body ++ [])) < 2 ^ 64
-        short bytes told body e_is =
-            let ps = map (node_piece set) so_far in
-            let done = k.lie bytes told in
-            let long = front-length t.files t.cursor.name bytes t.cursor.length (there bytes told) in
-            let reads = h.reads in
-            let within = reads.within in
-            let small = e.short in
-            let whole = ap length done.bytes ∙ length-append (flat_map piece_bytes ps) (at_hand s bytes) in
-            let now = ap length e_is ∙ length-append (framed 4 body) (at_hand t bytes) in
-            let own = length-append (flat_map piece_bytes ps) (framed 4 body ++ []) in
-            let end = length-append (framed 4 body) [] in
-            omega (arith, long, within, small, whole, now, own, end, length-drop s0.cursor.at bytes, length-drop t.cursor.at bytes)
-
-        lies : (bytes : List ℕ) → Told s0 bytes → RowAt set (nodes_view nodes.items) (at_hand u bytes) (left_of s0) (at_hand s0 bytes) × (n ≡ end_length set (nodes_view nodes.items))
-        lies bytes told =
-            let x = h.lies bytes (k.on.told bytes told) in
-            let body : List ℕ = x.0 in
-            let ps = map (node_piece set) so_far in
-            let es = entries_from 0 ps in
-            let same_body : dir_bytes (dir_in set kids) ≡ body = e.lies bytes (there bytes told) ∙ end-body-is s t bytes body (at_hand t bytes) n h.behind x.2 x.1 in
-            let own : dir_bytes (dir_of (node_pieces set (nodes_from so_far))) ≡ body = ap dir_bytes (sym (kids-dir set so_far kids (k.are bytes told))) ∙ same_body in
-            let with : dir_bytes (dir_with es set (nodes_from so_far)) ≡ body =
-            ap dir_bytes (dir-is set (left_of s0) (at_hand s0 bytes) so_far (at_hand s bytes) (k.lie bytes told) es refl) ∙ own in
-            let row = row-over set (left_of s0) (at_hand s0 bytes) so_far (at_hand s bytes) (k.lie bytes told) body (at_hand t bytes) set_is x.2 with (omega (arith, k.count, k.few)) (short bytes told body x.2) in (
-              subst (λ (z : List PlainNode). RowAt set (nodes_from z) (at_hand u bytes) (left_of s0) (at_hand s0 bytes)) (sym is) (subst (λ (z : List ℕ). RowAt set (nodes_from so_far) z (left_of s0) (at_hand s0 bytes)) (sym (after bytes)) row),
-              sym x.1 ∙ ap length (sym own) ∙ ap (λ (z : List PlainNode). end_length set (nodes_from z)) (sym is),
-            )
 
     -- it is not, so no nodes lie there that it closes
-    pub row-not-ended : (e : CursorFault) → EndJudged set kids n t u (Err e) → RowRead set s0 u (Err e)
-    row-not-ended f e = record {
-      reads = k.on.then u (Some f) (judged-reads (Err f) e);
+    pub row-not-ended : (e : CursorFault) → EndJudged g kids n t u (Err e) → RowJudged f kids s0 u (Err e)
+    row-not-ended fault e = record {
+      reads = k.on.then u (Some fault) (judged-reads (Err fault) e);
       behind = tt;
-      formed = tt;
       lies = λ bytes told. tt;
-      found = λ bytes told ks rest row. (
-          let x = ends-there bytes told ks rest row in
-          let body = dir_bytes (dir_of (node_pieces set ks)) in
-          let own : dir_bytes (dir_in set kids) ≡ body = ap dir_bytes (kids-dir set so_far kids (k.are bytes told)) ∙ ap (λ (z : PlainNodes). dir_bytes (dir_of (node_pieces set z))) x.0 in
-          e.undamaged bytes (there bytes told) (own ∙ sym (end-body-is s t bytes body rest n h.behind x.2 (sym x.3))));
+      found = λ bytes told ks after row right. (
+          let x = ends-there bytes told ks after row in
+          let body = dir_bytes (dir_of (node_pieces f.set ks)) in
+          let own : dir_bytes (dir_in g.set kids) ≡ body = own-dir bytes told ∙ ap (λ (z : PlainNodes). dir_bytes (dir_of (node_pieces f.set z))) x.0 in
+          e.undamaged bytes (told-behind bytes told) (sym (goes-end bytes told) ∙ ap (goes_on f) x.0 ∙ right) (own ∙ sym (end-body-is s t bytes body after n h.behind x.2 (sym x.3))));
     }

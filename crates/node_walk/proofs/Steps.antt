@@ -3,8 +3,8 @@ use Rattle.std.proofs.Common.{◌≡◌, ◌≢◌, ℕ, ◌+◌, ◌-◌, ◌�
 use Rattle.std.specs.Result.{IsErrAnd}
 use Rattle.xa_outside.specs.Causes.{Rose}
 use Rattle.xa_outside.specs.Folder.{Files}
-use Rattle.xa_outside.specs.Numbers.{PullsAtMost, after_pull}
-use Rattle.xa_outside.specs.NumberLaws.{PullsAtMost-of, PullsAtMost-more, PullsAtMost-trans}
+use Rattle.xa_outside.specs.Numbers.{IsMeter, PullsAtMost, after_pull}
+use Rattle.xa_outside.specs.NumberLaws.{PullsAtMost-none, PullsAtMost-of, PullsAtMost-more, PullsAtMost-trans}
 use Rattle.record_cursor.specs.Faults.{IfDamage, IfFolder}
 use Rattle.record_cursor.specs.Items.{PlainItem, finish}
 use Rattle.record_cursor.specs.Moves.{TellsFront, Goes, Moves}
@@ -17,11 +17,9 @@ use Rattle.record_cursor.specs.declared.fault.CursorFault.{CursorFault}
 use Rattle.record_cursor.specs.declared.fault.CursorFault.TheVariants.{Damage, Folder, Memory}
 use Rattle.record_cursor.specs.declared.item.Item.{Item}
 use Rattle.record_cursor.proofs.Pulled.{read-within}
-use Rattle.node_walk.specs.Owned.{owned_view, HasStamp, HasParts}
 use Rattle.node_walk.specs.Places.{depth_of, IsAmongNodes, IsInLeaf}
 use Rattle.node_walk.specs.Seen.{Seen, Told, IsWhole, at_hand, may_pull, Reads}
-use Rattle.node_walk.specs.Walked.{Given, OwnedRead}
-use Rattle.node_walk.specs.declared.owned.Owned.{Owned}
+use Rattle.node_walk.specs.Walked.{Given}
 
 -- ---- places
 
@@ -130,7 +128,7 @@ gave s t r item is files draft numbers later moves spells whole =
       whole = whole;
     }
 
-gave-reads : (s t : Seen) (item : Item) → Gave s t item → Reads s t None
+pub gave-reads : (s t : Seen) (item : Item) → Gave s t item → Reads s t None
 gave-reads s t item h =
     let goes = h.goes in
     let moved = goes.moved in
@@ -146,20 +144,17 @@ gave-reads s t item h =
       pulls = PullsAtMost-of (t.cursor.at - s.cursor.at) (read_for s.cursor.standing (shown_item item)) s.numbers t.numbers (omega (arith, moved, read-within s.cursor.standing (shown_item item))) h.numbers;
     }
 
-gave-given : (s t : Seen) (item : Item) → Gave s t item → Given s t (shown_item item)
+pub gave-given : (s t : Seen) (item : Item) → Gave s t item → Given s t (shown_item item)
 gave-given s t item h = record { may_come = h.goes.may_come; moved = h.goes.moved; pulled = h.numbers; comes = h.goes.comes; spelled = h.spelled; whole = h.whole }
 
--- and it is owned
-pub owned : (s t : Seen) (item : Item) (o : Owned) → Gave s t item → owned_view o ≡ shown_item item → HasStamp o → HasParts o → OwnedRead s t (Ok o)
-owned s t item o h is stamp parts = record { reads = gave-reads s t item h; given = subst (Given s t) (sym is) (gave-given s t item h); stamp = stamp; parts = parts; damage = λ bytes tells. tt }
+-- it gave none
+pub record Missed (s t : Seen) (e : CursorFault) : Type 0 where
+  pub reads : Reads s t (Some e)
+  pub damage : (bytes : List ℕ) → Told s bytes → IfDamage e (next_of s.cursor.standing (at_hand s bytes) ≡ None)
 
-pub owned-memory : (s t : Seen) (item : Item) → Gave s t item → OwnedRead s t (Err Memory)
-owned-memory s t item h = record { reads = reads-stop s t Memory tt (gave-reads s t item h); given = tt; stamp = tt; parts = tt; damage = λ bytes tells. tt }
-
--- it failed
-pub owned-failed : (s t : Seen) (r : Result Item CursorFault) (e : CursorFault) → s.cursor.at ≤ s.cursor.length → r ≡ Err e → t.files ≡ s.files → t.draft ≡ s.draft → PullsAtMost (s.cursor.length - s.cursor.at) s.numbers t.numbers → s.faults ≤ t.faults → IfFolder e (Rose s.faults t.faults)
-    → ((bytes : List ℕ) → TellsFront s.files s.cursor.name s.cursor.length bytes → IfDamage e (next_of s.cursor.standing (drop s.cursor.at bytes) ≡ None)) → Moves s.files s.cursor r t.cursor → OwnedRead s t (Err e)
-owned-failed s t r e within is files draft pulls later cause damage moves =
+pub missed : (s t : Seen) (r : Result Item CursorFault) (e : CursorFault) → s.cursor.at ≤ s.cursor.length → r ≡ Err e → t.files ≡ s.files → t.draft ≡ s.draft → PullsAtMost (s.cursor.length - s.cursor.at) s.numbers t.numbers → s.faults ≤ t.faults → IfFolder e (Rose s.faults t.faults)
+    → ((bytes : List ℕ) → TellsFront s.files s.cursor.name s.cursor.length bytes → IfDamage e (next_of s.cursor.standing (drop s.cursor.at bytes) ≡ None)) → Moves s.files s.cursor r t.cursor → Missed s t e
+missed s t r e within is files draft pulls later cause damage moves =
     let same = stayed s.files s.cursor t.cursor r e is moves in
     let at = ap (λ (c : PlainCursor). c.at) same in
     record {
@@ -174,11 +169,22 @@ owned-failed s t r e within is files draft pulls later cause damage moves =
         within = subst (λ (c : PlainCursor). c.at ≤ c.length) (sym same) within;
         pulls = pulls;
       };
-      given = tt;
-      stamp = tt;
-      parts = tt;
       damage = damage;
     }
+
+-- nothing was read
+pub reads-none : (s : Seen) → s.cursor.at ≤ s.cursor.length → IsMeter s.numbers → Reads s s None
+reads-none s within meter = record {
+  same_files = refl;
+  same_draft = refl;
+  later = omega arith;
+  cause = tt;
+  same_name = refl;
+  same_length = refl;
+  onward = omega arith;
+  within = within;
+  pulls = PullsAtMost-none (s.cursor.at - s.cursor.at) s.numbers meter;
+}
 
 -- ---- what the code hands on
 

@@ -1,5 +1,5 @@
 pub mod Seen
 pub mod Places
-pub mod Owned
+pub mod Next
 pub mod Walked
 pub mod Nodes

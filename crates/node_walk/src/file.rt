@@ -1,35 +1,45 @@
 // The nodes of a file.
 ghost use Rattle.record_cursor.specs.View.{header_view, IsHeader};
-ghost use Rattle.node_walk.specs.Nodes.{NodesRead, FolderSeen, folder_seen};
+ghost use Rattle.node_walk.specs.Nodes.{NodesJudged, FolderSeen, folder_seen};
 
 use crate::finish::read_finish;
-use crate::rows::read_row;
-use archive_tree::ANode;
+use crate::root::judge_root;
+use node_judge::rows_are_right_kid_by_kid;
 use record_cursor::{Cursor, CursorFault, Header};
 use row_ends::Room;
 use std::alloc::Global;
 use version_set::VersionSet;
 use xa_outside::Folder;
 
-/// The nodes of the file of this name that has the header.
+/// Judges the nodes of the file of this name that has the header: whether they are those of an
+/// archive that is keyed by the header's specification. Damage says that they are not.
 ///
-/// It reads each byte behind the header once, and holds the nodes, one record, and what is kept of
-/// the kids of open nodes. No END is held.
-pub fn read_nodes<F: Folder>(
+/// It reads each byte behind the header once. It holds one record, a label and what is waited for of
+/// each row that stands open, what is kept of finished kids, and the bodies of one leaf.
+pub fn judge_nodes<F: Folder>(
     alloc: Global,
     folder: &mut F,
     name: &str,
     header: &Header,
-) -> Result<Vec<ANode>, CursorFault>
+) -> Result<(), CursorFault>
     requires { IsHeader (header_view header.now) }
-    ensures { NodesRead name.now (header_view header.now)
+    ensures { NodesJudged name.now (header_view header.now)
         (folder_seen F.files F.draft F.numbers F.faults folder.old)
         (folder_seen F.files F.draft F.numbers F.faults folder.new) result }
 {
+    // A law, for the proof: a row tells whether an archive is sound.
+    rows_are_right_kid_by_kid();
     let mut cursor = Cursor::start(alloc, name, header)?;
     let mut room = Room::new(alloc)?;
     let set = VersionSet::upto(alloc, header.versions);
-    let (nodes, _) = read_row(alloc, &mut room, folder, name, &mut cursor, &set)?;
-    read_finish(alloc, folder, &mut cursor)?;
-    Ok(nodes)
+    judge_root(
+        alloc,
+        &mut room,
+        folder,
+        name,
+        &mut cursor,
+        &header.spec,
+        &set,
+    )?;
+    read_finish(folder, &mut cursor)
 }

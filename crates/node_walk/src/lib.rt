@@ -1,5 +1,5 @@
-//! Reading the nodes of an archive file, record by record, over any folder. The END of each row is
-//! compared with what is kept of its finished kids, and never held.
+//! Judging the nodes of an archive file, record by record, over any folder. No node is built: each is
+//! judged in its place as it is met, and the END of each row by what is kept of its finished kids.
 #![tactic(auto)]
 
 mod alternatives;
@@ -8,7 +8,8 @@ mod file;
 mod finish;
 mod keep;
 mod next;
-mod owned;
+mod root;
 mod rows;
+mod verdict;
 
-pub use file::read_nodes;
+pub use file::judge_nodes;

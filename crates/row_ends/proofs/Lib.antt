@@ -2,3 +2,4 @@ pub mod Same
 pub mod Steps
 pub mod Sizes
 pub mod Stamps
+pub mod Times

@@ -1,5 +1,6 @@
 // The finished kids of a node that stands open.
-ghost use Rattle.std.specs.Prelude.{◌≡◌, ◌<◌, ◌+◌, ◌^◌, ◌++◌, ◌∷◌, [], map, IfOk, OnErr, length as count};
+ghost use Rattle.std.specs.Prelude.{◌≡◌, ◌<◌, ◌+◌, ◌^◌, ◌++◌, ◌∷◌, [], map, replicate, IfOk, OnOk, OnErr, length as count};
+ghost use Rattle.std.specs.List.{flat_map};
 ghost use Rattle.archive_tree.specs.View.{stamp_view};
 ghost use Rattle.xa_fields.specs.declared.limits.TheConstants.{FIELD};
 ghost use Rattle.row_ends.specs.Kids.{row_length, stamps_in};
@@ -27,7 +28,6 @@ pub struct Kids {
 }
 
 impl Kids {
-    ghost use Rattle.std.specs.Prelude.{OnOk};
     ghost use Rattle.version_set.specs.View.{pairs_of};
     ghost use Rattle.row_ends.specs.Kids.{no_kids, with_kid, sets_in};
     ghost use Rattle.row_ends.specs.KidViews.{size_view};
@@ -82,6 +82,21 @@ impl Kids {
         Ok(())
     }
 
+    /// The intervals of the effective sets of all kids, one set behind another, where their parent
+    /// has this set.
+    pub fn pairs(&self, alloc: Global, set: &VersionSet) -> Result<Vec<(u32, u32)>, AllocError>
+        ensures { IfOk result (λ v. v.items
+            ≡ flat_map (λ s. s) (sets_in (pairs_of set.now) (kids_view self.now).stamps)) }
+    {
+        let mut pairs = Vec::new(alloc);
+        for kid in &self.stored {
+            add_times(&mut pairs, set.pairs(), kid.inheriting)?;
+            pairs.extend_from_slice(kid.set.pairs())?;
+        }
+        add_times(&mut pairs, set.pairs(), self.inheriting)?;
+        Ok(pairs)
+    }
+
     /// The sizes of all kids.
     pub(crate) fn sizes(&self) -> &[Size]
         ensures { map size_view result.now ≡ (kids_view self.now).sizes }
@@ -99,6 +114,18 @@ impl Kids {
             inheriting: self.inheriting,
         }
     }
+}
+
+/// Adds the intervals so many times.
+#[tactic(auto, using(crate::proofs::Times::times_more))]
+fn add_times(pairs: &mut Vec<(u32, u32)>, more: &[(u32, u32)], times: u32) -> Result<(), AllocError>
+    ensures { OnOk result (pairs.new.items
+        ≡ pairs.old.items ++ flat_map (λ s. s) (replicate times more.now)) }
+{
+    for _ in 0..times {
+        pairs.extend_from_slice(more)?;
+    }
+    Ok(())
 }
 
 /// Keeps the timestamp of one more kid, and answers how many inherit behind the last stored set.

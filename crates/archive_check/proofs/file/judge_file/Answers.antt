@@ -9,14 +9,14 @@ of g = (let f = g.F.Folder in folder_seen f.files f.draft f.numbers f.faults)
 
 pub returns-in-Ok : goal.returns-in-Ok
 returns-in-Ok g c =
-    let p = c.in-Ok in
-    file-judged c.args.name.now c.args.length (of g c.args.folder.now) (of g c.read_parts.new.folder) c.requires p.header p.nodes p.ensures c.judge_nodes.result c.judge_nodes.ensures
+    let law = c.nodes_are_sound_in_their_place.ensures in
+    file-judged c.args.name.now c.args.length (of g c.args.folder.now) (of g c.judge_parts.new.folder) law.versions law.kept law.one c.in-Ok.versions c.in-Ok.ensures
 
 pub returns-in-Err-Damage : goal.returns-in-Err-Damage
-returns-in-Err-Damage g c = file-failed c.args.name.now c.args.length (of g c.args.folder.now) (of g c.read_parts.new.folder) c.in-Err-Damage.field-0 Damage c.in-Err-Damage.field-0-is c.in-Err-Damage.ensures
+returns-in-Err-Damage g c = file-failed c.args.name.now c.args.length (of g c.args.folder.now) (of g c.judge_parts.new.folder) c.in-Err-Damage.field-0 Damage c.in-Err-Damage.field-0-is c.in-Err-Damage.ensures
 
 pub returns-in-Err-Folder : goal.returns-in-Err-Folder
-returns-in-Err-Folder g c = file-failed c.args.name.now c.args.length (of g c.args.folder.now) (of g c.read_parts.new.folder) c.in-Err-Folder.field-0 Folder c.in-Err-Folder.field-0-is c.in-Err-Folder.ensures
+returns-in-Err-Folder g c = file-failed c.args.name.now c.args.length (of g c.args.folder.now) (of g c.judge_parts.new.folder) c.in-Err-Folder.field-0 Folder c.in-Err-Folder.field-0-is c.in-Err-Folder.ensures
 
 pub returns-in-Err-Memory : goal.returns-in-Err-Memory
-returns-in-Err-Memory g c = file-failed c.args.name.now c.args.length (of g c.args.folder.now) (of g c.read_parts.new.folder) c.in-Err-Memory.field-0 Memory c.in-Err-Memory.field-0-is c.in-Err-Memory.ensures
+returns-in-Err-Memory g c = file-failed c.args.name.now c.args.length (of g c.args.folder.now) (of g c.judge_parts.new.folder) c.in-Err-Memory.field-0 Memory c.in-Err-Memory.field-0-is c.in-Err-Memory.ensures
