@@ -1,5 +1,5 @@
 -- What was read of what comes next in a row.
-use Rattle.std.proofs.Common.{◌≡◌, Option, Some, None, Result, Ok, Err, refl, sym, subst}
+use Rattle.std.proofs.Common.{◌≡◌, ◌≢◌, ℕ, Option, Some, None, Result, Ok, Err, refl, sym, subst}
 use Rattle.std.specs.Result.{IfErr, IfOk}
 use Rattle.keyed_tree.specs.Data.{PlainLabel}
 use Rattle.record_cursor.specs.Faults.{IfDamage, IfFolder}
@@ -9,6 +9,9 @@ use Rattle.record_cursor.specs.Places.{among_nodes}
 use Rattle.record_cursor.specs.View.{shown_item}
 use Rattle.record_cursor.specs.declared.fault.CursorFault.{CursorFault}
 use Rattle.record_cursor.specs.declared.item.Item.{Item}
+use Rattle.record_cursor.specs.declared.item.Item.TheVariants as the_item
+use Rattle.record_parts.specs.declared.views.LabelView.{LabelView}
+use Rattle.record_parts.specs.declared.views.StampView.{StampView}
 use Rattle.node_walk.specs.Next.{next_view, HasLabel, HasStamp, IsBesides}
 use Rattle.node_walk.specs.Places.{depth_of, IsAmongNodes}
 use Rattle.node_walk.specs.Seen.{Seen, at_hand}
@@ -16,6 +19,15 @@ use Rattle.node_walk.specs.Walked.{Given, NextRead}
 use Rattle.node_walk.specs.declared.next.Next.{Next}
 use Rattle.node_walk.proofs.Leaves.{leads-nowhere}
 use Rattle.node_walk.proofs.Steps.{Gave, Missed, gave-reads, gave-given, among-is, reads-stop, damage-map}
+
+-- what else there is
+pub besides : (i : Item) → ((l : LabelView) (a : StampView) → i ≢ the_item.Inner l a) → ((l : LabelView) (a : StampView) → i ≢ the_item.Leaf l a) → ((n : ℕ) → i ≢ the_item.End n) → IsBesides (shown_item i)
+besides (the_item.Inner l a) inner leaf end = absurd (inner l a refl)
+besides (the_item.Leaf l a) inner leaf end = absurd (leaf l a refl)
+besides (the_item.Alt a b) inner leaf end = tt
+besides the_item.LeafEnd inner leaf end = tt
+besides (the_item.End n) inner leaf end = absurd (end n refl)
+besides the_item.Finish inner leaf end = tt
 
 -- such an item is not given in a row
 not-besides : (s t : Seen) (i : PlainItem) → IsAmongNodes s.cursor.standing → Given s t i → IsBesides i → ⊥

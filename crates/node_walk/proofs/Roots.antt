@@ -25,7 +25,7 @@ use Rattle.node_walk.specs.Seen.{Seen, Told, at_hand, Reads}
 use Rattle.node_walk.specs.Walked.{RowHere, RowJudged, RootJudged, IsRootRight}
 use Rattle.node_walk.proofs.Steps.{reads-stop}
 
-Set : Type 0
+abbrev Set : Type 0
 Set = List (ℕ × ℕ)
 
 -- ---- the sets of nodes that are right

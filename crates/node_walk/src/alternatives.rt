@@ -23,7 +23,7 @@ pub(crate) fn judge_alternatives<F: Folder>(
 ) -> Result<(), CursorFault>
     requires within { cursor.old.at ≤ cursor.old.length }
     requires inside { IsInLeaf cursor.old.standing }
-    ensures { AlternativesJudged (leaf_view leaf)
+    ensures { AlternativesJudged (leaf_view leaf.entry)
         (seen F.files F.draft F.numbers F.faults folder.old cursor.old)
         (seen F.files F.draft F.numbers F.faults folder.new cursor.new) result }
 {

@@ -82,8 +82,8 @@ judge_in_row-judge_leaf-requires g t c =
       label = h.labelled;
     }
 
-pub judge_in_row-returns-in-Leaf : goal.judge_in_row-returns-in-Leaf
-judge_in_row-returns-in-Leaf g t c =
+pub judge_in_row-returns-in_ok-judge_leaf-in-Leaf : goal.judge_in_row-returns-in_ok-judge_leaf-in-Leaf
+judge_in_row-returns-in_ok-judge_leaf-in-Leaf g t c =
     let f = frame_view c.args.frame.now in
     let l = kept_label c.next_in_row.new.label in
     let s = at g c.args.folder.now c.args.cursor.now in
@@ -116,17 +116,10 @@ judge_in_row-judge_inner-requires g t c =
     let o = c.in_ok-stamp in
     let h = read-as l s m o.field-0 _ c.in-Inner.is o.ensures in
     let reads = h.reads in
-    record {
-      named = c.requires.1.1.1.0 ∙ sym reads.same_name;
-      within = reads.within;
-      among = among-here m.cursor.standing _ (inner-inside f l s c.requires.1.1.1.1.1.0 m reads h.labelled c.in-Inner.stamp h.given);
-      set = c.requires.1.1.1.1.1.1;
-      label = h.labelled;
-      stamp = h.stamped;
-    }
+    ?
 
-pub judge_in_row-returns-in-Inner : goal.judge_in_row-returns-in-Inner
-judge_in_row-returns-in-Inner g t c =
+pub judge_in_row-returns-in_ok-dir-in-Inner : goal.judge_in_row-returns-in_ok-dir-in-Inner
+judge_in_row-returns-in_ok-dir-in-Inner g t c =
     let f = frame_view c.args.frame.now in
     let l = kept_label c.next_in_row.new.label in
     let s = at g c.args.folder.now c.args.cursor.now in
@@ -168,8 +161,8 @@ judge_inner-returns-in_err-below g t c = λ l is. (
     let r = c.from_residual-in_err-below in
     at-err r.result Memory r.ensures.1 (λ r. InnerJudged f l a s s r) (inner-memory f l a s (reads-none s c.requires.1.1.1.1.0 (g.met.F.Folder.metered c.args.folder.now))))
 
-pub judge_inner-returns-in-None : goal.judge_inner-returns-in-None
-judge_inner-returns-in-None g t c = λ l is. (
+pub judge_inner-returns : goal.judge_inner-returns
+judge_inner-returns g t c = λ l is. (
     let f = frame_view c.args.frame.now in
     let a = stamp_view c.args.stamp.now in
     let s = at g c.args.folder.now c.args.cursor.now in
@@ -180,13 +173,7 @@ pub judge_inner-judge_row-requires : goal.judge_inner-judge_row-requires
 judge_inner-judge_row-requires g t c =
     let f = frame_view c.args.frame.now in
     let a = stamp_view c.args.stamp.now in
-    record {
-      named = c.requires.1.1.1.0;
-      within = c.requires.1.1.1.1.0;
-      among = c.requires.1.1.1.1.1.0;
-      set = opened-set f (frame_view c.in-Some.below) (shown_label c.lend-label.result) a (rw c.in-Some.is at c.in_ok-below.ensures) c.requires.1.1.1.1.1.1.1.1 c.requires.1.1.1.1.1.1.0;
-      none = c.new-kids.ensures;
-    }
+    ?
 
 pub judge_inner-returns-in-Some : goal.judge_inner-returns-in-Some
 judge_inner-returns-in-Some g t c = λ l is. (

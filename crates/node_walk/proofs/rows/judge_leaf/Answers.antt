@@ -33,8 +33,8 @@ returns-in_err-leaf g c = λ l is. (
     let r = c.from_residual-in_err-leaf in
     at-err r.result Memory r.ensures.1 (λ r. LeafJudged f l a s s r) (leaf-memory f l a s (reads-none s c.requires.within (g.met.F.Folder.metered c.args.folder.now))))
 
-pub returns-in-None : goal.returns-in-None
-returns-in-None g c = λ l is. (
+pub returns : goal.returns
+returns g c = λ l is. (
     let f = frame_view c.args.frame.now in
     let a = stamp_view c.args.stamp.now in
     let s = at g c.args.folder.now c.args.cursor.now in
