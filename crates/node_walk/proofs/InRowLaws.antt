@@ -126,7 +126,7 @@ module _ (f : PlainFrame) (l : Option PlainLabel) (s : Seen) (among : IsAmongNod
   -- ---- a node
 
   module _ (m : Seen) (reads : Reads s m None) where
-    moved-on : (i : PlainItem) → i ≢ finish → Given s m i → s.cursor.at + 9 ≤ m.cursor.at
+    pub moved-on : (i : PlainItem) → i ≢ finish → Given s m i → s.cursor.at + 9 ≤ m.cursor.at
     moved-on i some g = (let moved = g.moved in let least = size-least s.cursor.standing i some in omega (arith, moved, least))
 
     there : (bytes : List ℕ) → Told s bytes → Told m bytes

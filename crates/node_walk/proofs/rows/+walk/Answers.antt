@@ -5,6 +5,7 @@ use Rattle.archive_tree.specs.Data.{Stamp}
 use Rattle.archive_tree.specs.View.{stamp_view}
 use Rattle.keyed_tree.specs.Data.{PlainLabel}
 use Rattle.record_parts.specs.ShownViews.{label_in, shown_label}
+use Rattle.record_cursor.specs.Items.{inner_item}
 use Rattle.record_cursor.specs.Places.{Standing, among_nodes, in_leaf}
 use Rattle.record_cursor.specs.View.{PlainCursor}
 use Rattle.record_cursor.specs.declared.fault.CursorFault.TheVariants.{Memory}
@@ -18,7 +19,7 @@ use Rattle.node_walk.specs.Seen.{Seen, seen}
 use Rattle.node_walk.specs.Walked.{NextRead, InRowJudged, InnerJudged, RowJudged}
 use Rattle.node_walk.specs.declared.next.Next.{Next}
 use Rattle.node_walk.specs.declared.rows.InRow.{InRow}
-use Rattle.node_walk.proofs.InRowLaws.{in-row-failed, in-row-end, leaf-inside, in-row-leaf, in-row-no-leaf, inner-inside, in-row-inner, in-row-no-inner}
+use Rattle.node_walk.proofs.InRowLaws.{moved-on, in-row-failed, in-row-end, leaf-inside, in-row-leaf, in-row-no-leaf, inner-inside, in-row-inner, in-row-no-inner}
 use Rattle.node_walk.proofs.RowLaws.{RowOn, row-begins, row-failed, row-kept, row-not-kept, row-ended, row-not-ended}
 use Rattle.node_walk.proofs.Inside.{inner-judged, inner-refused, inner-memory, opened-set}
 use Rattle.node_walk.proofs.Steps.{at-err, reads-none}
@@ -116,7 +117,17 @@ judge_in_row-judge_inner-requires g t c =
     let o = c.in_ok-stamp in
     let h = read-as l s m o.field-0 _ c.in-Inner.is o.ensures in
     let reads = h.reads in
-    ?
+    let among = c.requires.1.1.1.1.1.0 in
+    let more = moved-on f l s among m reads (inner_item (label_in l) (stamp_view c.in-Inner.stamp)) (λ e. absurd cc) h.given in
+    let within = reads.within in
+    let same = reads.same_length in
+    λ k lives. (
+      omega (arith, c.requires.0, more, within, same),
+      (lives, (
+        c.requires.1.1.1.0 ∙ sym reads.same_name,
+        (within, (among-here m.cursor.standing _ (inner-inside f l s among m reads h.labelled c.in-Inner.stamp h.given), (c.requires.1.1.1.1.1.1, (h.labelled, h.stamped)))),
+      )),
+    )
 
 pub judge_in_row-returns-in_ok-dir-in-Inner : goal.judge_in_row-returns-in_ok-dir-in-Inner
 judge_in_row-returns-in_ok-dir-in-Inner g t c =
@@ -173,7 +184,14 @@ pub judge_inner-judge_row-requires : goal.judge_inner-judge_row-requires
 judge_inner-judge_row-requires g t c =
     let f = frame_view c.args.frame.now in
     let a = stamp_view c.args.stamp.now in
-    ?
+    let r = c.requires.1.1.1 in
+    λ k lives. (
+      omega (arith, c.requires.0),
+      (lives, (
+        r.0,
+        (r.1.0, (r.1.1.0, (opened-set f (frame_view c.in-Some.below) (shown_label c.lend-label.result) a (rw c.in-Some.is at c.in_ok-below.ensures) r.1.1.1.1.1 r.1.1.1.0, c.new-kids.ensures))),
+      )),
+    )
 
 pub judge_inner-returns-in-Some : goal.judge_inner-returns-in-Some
 judge_inner-returns-in-Some g t c = λ l is. (
