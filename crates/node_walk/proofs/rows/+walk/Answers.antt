@@ -122,7 +122,7 @@ judge_in_row-judge_inner-requires g t c =
     let within = reads.within in
     let same = reads.same_length in
     λ k lives. (
-      omega (arith, c.requires.0, more, within, same),
+      omega (arith, more, within, same),
       (lives, (
         c.requires.1.1.1.0 ∙ sym reads.same_name,
         (within, (among-here m.cursor.standing _ (inner-inside f l s among m reads h.labelled c.in-Inner.stamp h.given), (c.requires.1.1.1.1.1.1, (h.labelled, h.stamped)))),
@@ -186,7 +186,7 @@ judge_inner-judge_row-requires g t c =
     let a = stamp_view c.args.stamp.now in
     let r = c.requires.1.1.1 in
     λ k lives. (
-      omega (arith, c.requires.0),
+      omega arith,
       (lives, (
         r.0,
         (r.1.0, (r.1.1.0, (opened-set f (frame_view c.in-Some.below) (shown_label c.lend-label.result) a (rw c.in-Some.is at c.in_ok-below.ensures) r.1.1.1.1.1 r.1.1.1.0, c.new-kids.ensures))),
