@@ -1,10 +1,8 @@
 -- What comes next in a row.
-use Rattle.std.proofs.Common.{◌≡◌, ◌≢◌, ℕ, suc, ◌+◌, ◌-◌, ◌<◌, ◌≤◌, Bool, true, false, ltb, ◌&&◌, IsTrue, List, [], ◌∷◌, ◌++◌, map, length, Option, Some, None, Result, Ok, Err, refl, sym, ap, subst, ◌∙◌, append_assoc, arith}
+use Rattle.std.proofs.Common.{◌≡◌, ◌≢◌, ℕ, suc, ◌+◌, ◌-◌, ◌<◌, ◌≤◌, true, false, ltb, IsTrue, List, [], ◌∷◌, ◌++◌, map, length, Option, Some, None, Ok, Err, refl, sym, ap, subst, ◌∙◌, append_assoc, arith}
 use Rattle.std.specs.Prelude.{IsSome}
 use Rattle.std.specs.List.{flat_map}
-use Rattle.std.specs.Result.{IfErr, IfOk}
 use Rattle.std.proofs.lemmas.Bool.{and_from}
-use Rattle.version_set.specs.View.{pairs_of}
 use Rattle.version_set.specs.declared.set.VersionSet.{VersionSet}
 use Rattle.keyed_tree.specs.Data.{PlainLabel}
 use Rattle.keyed_tree.proofs.Kids.{both}
@@ -36,7 +34,7 @@ use Rattle.node_walk.specs.Places.{depth_of, IsAmongNodes, left_of}
 use Rattle.node_walk.specs.Seen.{Seen, Told, at_hand, Reads}
 use Rattle.node_walk.specs.Walked.{Given, NextRead, LeafJudged, InnerJudged, InRowJudged, RowHere, AltsHere, KidHere, end_length}
 use Rattle.node_walk.specs.declared.rows.InRow.TheVariants.{Kid, End}
-use Rattle.node_walk.proofs.Leaves.{leads-to, leads-nowhere}
+use Rattle.node_walk.proofs.Leaves.{leads-to}
 use Rattle.node_walk.proofs.Records.{record-is, read-there}
 use Rattle.node_walk.proofs.Steps.{among-is, reads-then, told-on, damage-map, comes-at}
 

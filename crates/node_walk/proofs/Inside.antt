@@ -1,20 +1,18 @@
 -- What is inside a node, behind the record that opens it.
-use Rattle.std.proofs.Common.{◌≡◌, ℕ, Bool, true, false, cond, ◌&&◌, IsTrue, List, Option, Some, None, Result, Ok, Err, refl, sym, ap, subst, ◌∙◌, true≢false}
+use Rattle.std.proofs.Common.{◌≡◌, ℕ, Bool, true, false, cond, IsTrue, List, Some, None, Result, Ok, Err, refl, sym, subst, ◌∙◌, true≢false}
 use Rattle.std.specs.Option.{unwrap_or}
 use Rattle.std.proofs.lemmas.Bool.{and_parts}
 use Rattle.keyed_tree.specs.Data.{PlainLabel}
 use Rattle.archive_tree.specs.Data.{Stamp, PlainAlt, PlainNodes, inner_node, leaf_node}
 use Rattle.archive_file.specs.Laid.{RowAt}
 use Rattle.archive_file.proofs.PutLaws.{set_in-is}
-use Rattle.record_format.specs.Nodes.{set_in}
 use Rattle.record_parts.specs.Bounds.{IsSet, IsStamp}
-use Rattle.record_cursor.specs.Faults.{IfDamage, IfFolder}
 use Rattle.record_cursor.specs.declared.fault.CursorFault.{CursorFault}
 use Rattle.record_cursor.specs.declared.fault.CursorFault.TheVariants.{Damage, Memory}
 use Rattle.node_judge.specs.Rows.{PlainFrame, PlainLeaf, may_open, row_below, leaf_of, inner_opened, leaf_opened, are_alts_of, is_next, goes_on}
 use Rattle.row_ends.specs.Kids.{PlainKids}
 use Rattle.node_walk.specs.Places.{left_of}
-use Rattle.node_walk.specs.Seen.{Seen, Told, at_hand, Reads}
+use Rattle.node_walk.specs.Seen.{Seen, at_hand, Reads}
 use Rattle.node_walk.specs.Walked.{AlternativesJudged, LeafJudged, RowJudged, InnerJudged}
 use Rattle.node_walk.proofs.Steps.{reads-stop}
 

@@ -1,7 +1,6 @@
 -- A walk on its way, and the alternatives of a leaf.
-use Rattle.std.proofs.Common.{◌≡◌, ◌≢◌, ℕ, ◌-◌, ◌<◌, ◌≤◌, Bool, true, false, ◌&&◌, IsTrue, List, [], ◌∷◌, ◌++◌, map, Option, Some, None, Result, Ok, Err, refl, sym, ap, subst, ◌∙◌, append_assoc, true≢false, arith}
+use Rattle.std.proofs.Common.{◌≡◌, ℕ, ◌≤◌, Bool, true, false, IsTrue, List, [], ◌∷◌, ◌++◌, Option, Some, None, Result, Ok, Err, refl, sym, ap, subst, ◌∙◌, append_assoc, true≢false, arith}
 use Rattle.std.specs.List.{list_all}
-use Rattle.std.specs.Result.{IfErr, IfOk}
 use Rattle.std.proofs.lemmas.Bool.{and_parts, and_from}
 use Rattle.std.proofs.lemmas.List.{append-nil}
 use Rattle.version_set.specs.Members.{members}
@@ -15,18 +14,16 @@ use Rattle.record_format.specs.Spelling.{rec_bytes}
 use Rattle.archive_file.specs.Laid.{AltsAt}
 use Rattle.archive_file.proofs.LaidLaws.{AltsLeft, alts-start, alts-next, alts-end}
 use Rattle.archive_file.proofs.ReadLaws.{alts-closed, alts-over}
-use Rattle.record_cursor.specs.Faults.{IfDamage, IfFolder}
-use Rattle.record_cursor.specs.Items.{PlainItem, inner_item, leaf_item, alt_item, leaf_end_item, end_item, finish}
+use Rattle.record_cursor.specs.Items.{PlainItem, alt_item, leaf_end_item}
 use Rattle.record_cursor.specs.Next.{next_of}
 use Rattle.record_cursor.specs.Places.{Standing, among_nodes, in_leaf, after_item}
 use Rattle.record_cursor.specs.declared.fault.CursorFault.{CursorFault}
 use Rattle.record_cursor.specs.declared.fault.CursorFault.TheVariants.{Damage}
-use Rattle.record_cursor.proofs.Pulled.{size-least}
 use Rattle.node_judge.specs.Holding.{PlainHeld, Holds}
 use Rattle.node_judge.specs.Rows.{PlainLeaf, is_body_of, are_alts_of}
 use Rattle.node_walk.specs.Places.{depth_of, IsInLeaf}
 use Rattle.node_walk.specs.Seen.{Seen, Told, at_hand, Reads}
-use Rattle.node_walk.specs.Walked.{Given, AltHeld, OneMore, Comes, AlternativeJudged, AlternativesJudged, AltsHere, or_damage}
+use Rattle.node_walk.specs.Walked.{Given, AltHeld, OneMore, AlternativeJudged, AlternativesJudged, or_damage}
 use Rattle.node_walk.proofs.Records.{record-is, leaf-end-is, read-there, alternatives-come}
 use Rattle.node_walk.proofs.Steps.{Missed, leaf-is, reads-then, reads-stop, told-on, damage-map}
 
@@ -88,9 +85,6 @@ module _ (h : PlainLeaf) (old new : PlainHeld) (s t : Seen) (leaf : IsInLeaf s.c
         (λ none. alternatives-come xs rest (at_hand s bytes) in_it lies (subst (λ (p : Standing). next_of p (at_hand s bytes) ≡ None) (leaf-is s.cursor.standing leaf) none)) (m.damage bytes told);
   }
 
-  pub alternative-none : Reads s t None → Given s t leaf_end_item → new ≡ old → AlternativeJudged h old new s t (Ok false)
-  alternative-none reads g same = record { reads = reads; comes = (g, same); refused = λ bytes told done xs rest holds lies right. tt }
-
   pub alternative-held : (a : PlainAlt) → Reads s t None → Given s t (alt_item a.stamp a.body) → (r : Result Bool CursorFault) → AltHeld h old new a r → AlternativeJudged h old new s t r
   alternative-held a reads g (Ok true) x = record {
     reads = reads;
@@ -107,10 +101,6 @@ module _ (h : PlainLeaf) (old new : PlainHeld) (s t : Seen) (leaf : IsInLeaf s.c
         damage-map e (are_alts_of h (done ++ a ∷ left.left) ≡ false) ⊥
         (λ wrong. not-right h (done ++ xs) (done ++ a ∷ left.left) (ap (λ (ys : List PlainAlt). done ++ ys) left.split) right wrong) (x.refused done left.left holds));
   }
-
-  -- another item cannot come
-  pub not-in-leaf : (i : PlainItem) → after_item (in_leaf in_it) i ≡ None → Given s t i → ⊥
-  not-in-leaf i none g = leads-nowhere s t i (in_leaf in_it) (leaf-is s.cursor.standing leaf) none g
 
 -- ---- alternatives
 
@@ -138,9 +128,6 @@ module _ (h : PlainLeaf) (s0 s t : Seen) (old new : PlainHeld) (k : Alternatives
   abbrev d : ℕ
   d = depth_of s0.cursor.standing
 
-  pub stays-in : IsInLeaf s.cursor.standing
-  stays-in = subst IsInLeaf (sym k.stands) tt
-
   alternatives-more : Reads s t None → OneMore h old new s t → AlternativesOn h s0 t new
   alternatives-more reads m =
       let a = m.alt in
@@ -165,19 +152,6 @@ module _ (h : PlainLeaf) (s0 s t : Seen) (old new : PlainHeld) (k : Alternatives
   pub alternatives-on : (b : Bool) → b ≡ true → AlternativeJudged h old new s t (Ok b) → AlternativesOn h s0 t new
   alternatives-on true is j = alternatives-more j.reads j.comes
   alternatives-on false is j = absurd (true≢false (sym is))
-
-  pub alternatives-less : (b : Bool) → b ≡ true → AlternativeJudged h old new s t (Ok b) → t.cursor.length - t.cursor.at < s.cursor.length - s.cursor.at
-  alternatives-less true is j =
-      let reads = j.reads in
-      let m = j.comes in
-      let a = m.alt in
-      let g = m.given in
-      let moved = g.moved in
-      let least = size-least s.cursor.standing (alt_item a.stamp a.body) (λ e. absurd cc) in
-      let within = reads.within in
-      let same = reads.same_length in
-      omega (arith, moved, within, same, least)
-  alternatives-less false is j = absurd (true≢false (sym is))
 
   -- ---- the end
 

@@ -1,7 +1,6 @@
 pub mod Records
 pub mod Steps
 pub mod Leaves
-pub mod Holding
 pub mod Nexts
 pub mod Kids
 pub mod RowLaws

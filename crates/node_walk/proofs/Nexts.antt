@@ -1,5 +1,5 @@
 -- What was read of what comes next in a row.
-use Rattle.std.proofs.Common.{◌≡◌, ◌≢◌, ℕ, Option, Some, None, Result, Ok, Err, refl, sym, subst}
+use Rattle.std.proofs.Common.{◌≡◌, ◌≢◌, ℕ, Option, None, Result, Ok, Err, refl, sym, subst}
 use Rattle.std.specs.Result.{IfErr, IfOk}
 use Rattle.keyed_tree.specs.Data.{PlainLabel}
 use Rattle.record_cursor.specs.Faults.{IfDamage, IfFolder}

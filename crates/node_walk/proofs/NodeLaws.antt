@@ -1,5 +1,5 @@
 -- The nodes of a file, and its end.
-use Rattle.std.proofs.Common.{◌≡◌, ◌≢◌, ℕ, ◌-◌, ◌≤◌, Bool, true, cond, ◌&&◌, IsTrue, List, [], length, drop, Option, Some, None, Result, Ok, Err, refl, sym, ap, subst, ◌∙◌, arith}
+use Rattle.std.proofs.Common.{◌≡◌, ℕ, ◌-◌, ◌≤◌, Bool, cond, ◌&&◌, IsTrue, List, [], length, drop, Option, Some, None, Result, Ok, Err, refl, sym, ap, subst, ◌∙◌, arith}
 use Rattle.std.specs.FinMap as map
 use Rattle.std.specs.List.{range_with_len}
 use Rattle.std.proofs.lemmas.Bool.{and_parts, and_from}
@@ -15,22 +15,20 @@ use Rattle.xa_outside.specs.Numbers.{IsMeter, PullsAtMost}
 use Rattle.xa_outside.specs.NumberLaws.{PullsAtMost-none, PullsAtMost-more}
 use Rattle.record_parts.specs.Bounds.{deepest}
 use Rattle.archive_file.specs.Laid.{RowAt}
-use Rattle.record_cursor.specs.Items.{PlainItem, inner_item, leaf_item, alt_item, leaf_end_item, end_item, finish}
+use Rattle.record_cursor.specs.Items.{PlainItem, finish}
 use Rattle.record_cursor.specs.Moves.{TellsFront}
 use Rattle.record_cursor.specs.Next.{next_of}
 use Rattle.record_cursor.specs.Places.{Standing, among_nodes, behind_root, finished}
-use Rattle.record_cursor.specs.Spelled.{IsSpelled}
 use Rattle.record_cursor.specs.View.{PlainCursor, PlainHeader}
 use Rattle.record_cursor.specs.declared.fault.CursorFault.{CursorFault}
-use Rattle.record_cursor.specs.declared.fault.CursorFault.TheVariants.{Damage, Memory}
+use Rattle.record_cursor.specs.declared.fault.CursorFault.TheVariants.{Memory}
 use Rattle.record_cursor.proofs.Comes.{ends}
 use Rattle.node_judge.specs.InPlace.{is_sound_archive}
 use Rattle.node_judge.specs.Rows.{root_frame, goes_on}
 use Rattle.node_walk.specs.Nodes.{FolderSeen, NodesLie, NodesJudged, archive_with}
 use Rattle.node_walk.specs.Places.{left_of}
 use Rattle.node_walk.specs.Seen.{Seen, Told, at_hand, may_pull, Reads}
-use Rattle.node_walk.specs.Walked.{Given, FinishRead, RowHere, RootJudged, IsRootRight, end_length}
-use Rattle.node_walk.proofs.Leaves.{leads-nowhere}
+use Rattle.node_walk.specs.Walked.{FinishRead, RootJudged, IsRootRight, end_length}
 use Rattle.node_walk.proofs.Steps.{Missed, reads-then, damage-map, told-on}
 
 -- ---- the end of the file
@@ -51,28 +49,6 @@ module _ (n : ℕ) (s : Seen) (stands : s.cursor.standing ≡ behind_root n) whe
         (λ none. not-none (next_of (behind_root n) (at_hand s bytes)) (finish, (finished, [])) (tail-comes n (at_hand s bytes) is) (subst (λ (p : Standing). next_of p (at_hand s bytes) ≡ None) stands none)) (h.damage bytes told);
     whole = λ files told. tt;
   }
-
-  pub finish-read : (t : Seen) → Reads s t None → Given s t finish → FinishRead n s t (Ok tt)
-  finish-read t reads g = record {
-    reads = reads;
-    lies = λ bytes told. (subst (λ (p : Standing). IsSpelled p finish (at_hand s bytes) (at_hand t bytes)) stands (g.spelled bytes told)).0;
-    found = λ bytes told is. tt;
-    whole = λ files told. g.whole files told (λ e. open-yet (sym stands ∙ e)) refl;
-  }
-    where
-      open-yet : behind_root n ≡ finished → ⊥
-      open-yet e = cc
-
-  no-other : (t : Seen) (i : PlainItem) → i ≢ finish → Given s t i → ⊥
-  no-other t (inner_item l a) f g = leads-nowhere s t (inner_item l a) (behind_root n) stands refl g
-  no-other t (leaf_item l a) f g = leads-nowhere s t (leaf_item l a) (behind_root n) stands refl g
-  no-other t (alt_item a b) f g = leads-nowhere s t (alt_item a b) (behind_root n) stands refl g
-  no-other t leaf_end_item f g = leads-nowhere s t leaf_end_item (behind_root n) stands refl g
-  no-other t (end_item m) f g = leads-nowhere s t (end_item m) (behind_root n) stands refl g
-  no-other t finish f g = f refl
-
-  pub finish-other : (t : Seen) (i : PlainItem) → i ≢ finish → Given s t i → FinishRead n s t (Err Damage)
-  finish-other t i f g = absurd (no-other t i f g)
 
 -- ---- the nodes
 

@@ -1,5 +1,5 @@
 -- The row of the virtual root, and whether the sets of its nodes divide the versions.
-use Rattle.std.proofs.Common.{◌≡◌, ℕ, Bool, true, false, ◌&&◌, IsTrue, List, [], ◌∷◌, map, Some, None, Result, Ok, Err, refl, sym, ap, subst, ◌∙◌, true≢false}
+use Rattle.std.proofs.Common.{◌≡◌, ℕ, Bool, true, false, ◌&&◌, IsTrue, List, ◌∷◌, map, Some, None, Ok, Err, refl, sym, ap, subst, ◌∙◌, true≢false}
 use Rattle.std.specs.List.{AllByRecursion, flat_map}
 use Rattle.std.proofs.lemmas.Bool.{and_parts}
 use Rattle.jsonml_tree.specs.declared.limits.TheConstants.{GREATEST_DEPTH}
@@ -11,18 +11,15 @@ use Rattle.archive_tree.specs.Data.{Stamp, eff, PlainNode, inner_node, leaf_node
 use Rattle.archive_tree.specs.Parts.{node_sets}
 use Rattle.archive_tree.specs.PartsTest.{is_stamp_well, are_parts}
 use Rattle.archive_tree.proofs.Tells.{stamp_tells}
-use Rattle.archive_file.specs.Laid.{RowAt}
 use Rattle.record_parts.specs.Bounds.{IsSet}
 use Rattle.record_format.specs.Nodes.{Piece, set_in, node_piece, node_pieces}
-use Rattle.record_cursor.specs.Faults.{IfDamage}
 use Rattle.record_cursor.specs.declared.fault.CursorFault.{CursorFault}
-use Rattle.record_cursor.specs.declared.fault.CursorFault.TheVariants.{Damage, Memory}
+use Rattle.record_cursor.specs.declared.fault.CursorFault.TheVariants.{Damage}
 use Rattle.node_judge.specs.Rows.{PlainFrame, root_frame, may_open, is_above, row_below, leaf_of, are_alts_of, behind_kid, is_next, goes_on}
 use Rattle.node_judge.specs.InPlace.{is_opening_sound}
 use Rattle.row_ends.specs.Kids.{PlainKids, sets_in}
-use Rattle.node_walk.specs.Places.{left_of}
-use Rattle.node_walk.specs.Seen.{Seen, Told, at_hand, Reads}
-use Rattle.node_walk.specs.Walked.{RowHere, RowJudged, RootJudged, IsRootRight}
+use Rattle.node_walk.specs.Seen.{Seen, Told}
+use Rattle.node_walk.specs.Walked.{RowJudged, RootJudged}
 use Rattle.node_walk.proofs.Steps.{reads-stop}
 
 abbrev Set : Type 0
@@ -82,9 +79,6 @@ module _ (rules : List PlainRule) (set : Set) (is_set : IsSet set) (s t : Seen) 
   root-failed kids e j = record { reads = j.reads; behind = tt; lies = λ bytes told. tt; found = λ bytes told ks rest lies right. j.found bytes told ks rest lies right.0 }
 
   module _ (kids : PlainKids) (n : ℕ) (j : RowJudged root kids s t (Ok n)) where
-    pub root-memory : RootJudged rules set s t (Err Memory)
-    root-memory = record { reads = reads-stop s t Memory tt j.reads; behind = tt; lies = λ bytes told. tt; found = λ bytes told ks rest lies right. tt }
-
     module _ (pairs : Set) (all : pairs ≡ flat_map (λ x. x) (sets_in set kids.stamps)) (b : Bool) (answer : (ss : List Set) → AllByRecursion IsCanonical ss → pairs ≡ flat_map (λ x. x) ss → b ≡ are_parts (members set) (map members ss)) where
       -- whether the nodes that lie there divide the versions
       answered : (bytes : List ℕ) (told : Told s bytes) → b ≡ are_parts (members set) (node_sets (members set) (j.lies bytes told).nodes)

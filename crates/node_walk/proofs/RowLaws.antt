@@ -1,12 +1,11 @@
 -- The nodes of a row, one after another.
-use Rattle.std.proofs.Common.{◌≡◌, ℕ, ◌+◌, ◌-◌, ◌^◌, ◌<◌, ◌≤◌, Bool, true, ◌&&◌, IsTrue, List, [], ◌∷◌, ◌++◌, map, drop, length, Option, Some, None, Result, Ok, Err, refl, sym, ap, subst, ◌∙◌, append_assoc, arith}
+use Rattle.std.proofs.Common.{◌≡◌, ℕ, ◌+◌, ◌-◌, ◌^◌, ◌<◌, ◌≤◌, Bool, ◌&&◌, IsTrue, List, [], ◌∷◌, ◌++◌, map, drop, length, Option, Some, None, Result, Ok, Err, refl, sym, ap, subst, ◌∙◌, append_assoc, arith}
 use Rattle.std.specs.List.{flat_map}
 use Rattle.std.proofs.lemmas.Bool.{and_parts}
 use Rattle.std.proofs.lemmas.List.{append-nil, length-append, length-drop}
-use Rattle.version_set.specs.View.{pairs_of}
 use Rattle.version_set.specs.declared.set.VersionSet.{VersionSet}
 use Rattle.keyed_tree.specs.Data.{PlainLabel}
-use Rattle.archive_tree.specs.Data.{Stamp, PlainNode, PlainNodes, no_nodes, node, nodes_list, nodes_from, node_label, node_stamp}
+use Rattle.archive_tree.specs.Data.{Stamp, PlainNode, PlainNodes, no_nodes, node, nodes_list, nodes_from, node_label}
 use Rattle.archive_tree.specs.View.{stamp_view}
 use Rattle.archive_tree.proofs.Parts.{nodes_list-nodes_from, nodes_from-nodes_list}
 use Rattle.xa_outside.specs.Numbers.{PullsAtMost}
@@ -14,7 +13,6 @@ use Rattle.xa_outside.specs.NumberLaws.{PullsAtMost-of, PullsAtMost-more, PullsA
 use Rattle.record_parts.specs.Bounds.{deepest, IsSet}
 use Rattle.record_parts.specs.ShownViews.{label_in}
 use Rattle.record_format.specs.Bounds.{IsRec}
-use Rattle.record_format.specs.Data.{PlainDir, end_rec}
 use Rattle.record_format.specs.Nodes.{Piece, piece_bytes, entries_from, dir_of, closed_by_end, node_piece, node_pieces}
 use Rattle.record_format.specs.Spelling.{dir_bytes, framed, rec_bytes}
 use Rattle.record_format.proofs.Pieces.{one-record}
@@ -34,7 +32,7 @@ use Rattle.node_judge.specs.Rows.{PlainFrame, behind_kid, is_met_all, is_next, g
 use Rattle.row_ends.specs.Kids.{PlainKids, AreKids, no_kids, with_kid, row_length, dir_in}
 use Rattle.node_walk.specs.Places.{depth_of, IsAmongNodes, left_of}
 use Rattle.node_walk.specs.Seen.{Seen, Told, at_hand, may_pull, Reads}
-use Rattle.node_walk.specs.Walked.{EndJudged, InRowJudged, KidHere, RowHere, RowJudged, end_length}
+use Rattle.node_walk.specs.Walked.{EndJudged, InRowJudged, KidHere, RowHere, RowJudged}
 use Rattle.node_walk.specs.declared.rows.InRow.TheVariants.{Kid, End}
 use Rattle.node_walk.proofs.Kids.{pieces-of, no-kids-are, kid-more, row-longer, one-more, node-size, end-body-is, kids-dir}
 use Rattle.node_walk.proofs.Leaves.{On, on-start, on-then, leads-to}
@@ -104,9 +102,6 @@ module _ (f g : PlainFrame) (s0 s t : Seen) (kids : PlainKids) (k : RowOn f g s0
 
   same-left : left_of s ≡ left_of s0
   same-left = ap (λ (p : Standing). deepest - depth_of p) k.stands
-
-  pub stays-among : IsAmongNodes s.cursor.standing
-  stays-among = subst IsAmongNodes (sym k.stands) tt
 
   -- a node that lies there, for what is kept now
   at-start : (bytes after : List ℕ) (i : PlainNode) → NodeAt f.set i after (left_of s0) (at_hand s bytes) → NodeAt g.set i after (left_of s) (at_hand s bytes)

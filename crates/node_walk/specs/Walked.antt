@@ -20,7 +20,7 @@ use Rattle.archive_file.specs.Laid.{AltsAt, NodeAt, RowAt}
 use Rattle.record_cursor.specs.Faults.{IfDamage, IfFolder}
 use Rattle.record_cursor.specs.Items.{PlainItem, alt_item, leaf_end_item, end_item, finish}
 use Rattle.record_cursor.specs.Next.{next_of, read_for, size_of}
-use Rattle.record_cursor.specs.Places.{among_nodes, in_leaf, closed_by, finished, after_item}
+use Rattle.record_cursor.specs.Places.{among_nodes, closed_by, finished, after_item}
 use Rattle.record_cursor.specs.Spelled.{IsSpelled}
 use Rattle.record_cursor.specs.Steps.{fault_of, IsCause, Filled}
 use Rattle.record_cursor.specs.declared.fault.CursorFault.{CursorFault}

@@ -5,7 +5,7 @@ use Rattle.record_cursor.specs.declared.fault.CursorFault.{CursorFault}
 use Rattle.version_set.specs.Members.{members}
 use Rattle.record_cursor.specs.View.{PlainCursor}
 use Rattle.node_judge.specs.FrameView.{leaf_view}
-use Rattle.node_judge.specs.HeldView.{held_leaf, held_view}
+use Rattle.node_judge.specs.HeldView.{held_view}
 use Rattle.node_judge.specs.Holding.{Holds}
 use Rattle.node_judge.specs.Rows.{PlainLeaf}
 use Rattle.node_walk.specs.Seen.{Seen, seen}

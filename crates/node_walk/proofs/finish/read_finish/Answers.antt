@@ -1,11 +1,7 @@
-use Rattle.std.proofs.Common.{◌≡◌, sym, subst}
-use Rattle.record_cursor.specs.Items.{PlainItem}
-use Rattle.record_cursor.specs.View.{PlainCursor, shown_item}
-use Rattle.record_cursor.specs.declared.item.Item.{Item}
+use Rattle.record_cursor.specs.View.{PlainCursor}
 use Rattle.node_walk.specs.Seen.{Seen, seen}
-use Rattle.node_walk.specs.Walked.{Given, FinishRead}
-use Rattle.node_walk.proofs.NodeLaws.{finish-failed, finish-read, finish-other}
-use Rattle.node_walk.proofs.Steps.{gave, gave-reads, gave-given, missed}
+use Rattle.node_walk.proofs.NodeLaws.{finish-failed}
+use Rattle.node_walk.proofs.Steps.{missed}
 use Rattle.node_walk.proofs.finish.read_finish.Given.{Over}
 use Rattle.node_walk.proofs.finish.read_finish.Goals as goal
 

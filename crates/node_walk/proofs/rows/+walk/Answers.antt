@@ -1,7 +1,6 @@
-use Rattle.std.proofs.Common.{◌≡◌, ℕ, ◌-◌, Option, Some, None, List, Ok, Err, refl, sym, ap, subst, ◌∙◌, arith}
+use Rattle.std.proofs.Common.{◌≡◌, ℕ, ◌-◌, Option, Some, None, Ok, refl, sym, ap, subst, ◌∙◌, arith}
 use Rattle.std.specs.Prelude.{IsSome}
 use Rattle.xa_fields.proofs.Fields.{some_is}
-use Rattle.archive_tree.specs.Data.{Stamp}
 use Rattle.archive_tree.specs.View.{stamp_view}
 use Rattle.keyed_tree.specs.Data.{PlainLabel}
 use Rattle.record_parts.specs.ShownViews.{label_in, shown_label}
@@ -13,7 +12,6 @@ use Rattle.node_judge.specs.FrameView.{frame_view, kept_label}
 use Rattle.node_judge.specs.Rows.{PlainFrame, inner_opened}
 use Rattle.row_ends.specs.Kids.{with_kid}
 use Rattle.row_ends.specs.KidsView.{kids_view}
-use Rattle.node_walk.specs.Next.{next_view, HasLabel, HasStamp}
 use Rattle.node_walk.specs.Places.{IsAmongNodes, IsInLeaf}
 use Rattle.node_walk.specs.Seen.{Seen, seen}
 use Rattle.node_walk.specs.Walked.{NextRead, InRowJudged, InnerJudged, RowJudged}
@@ -123,10 +121,13 @@ judge_in_row-judge_inner-requires g t c =
     let same = reads.same_length in
     λ k lives. (
       omega (arith, more, within, same),
-      (lives, (
-        c.requires.1.1.1.0 ∙ sym reads.same_name,
-        (within, (among-here m.cursor.standing _ (inner-inside f l s among m reads h.labelled c.in-Inner.stamp h.given), (c.requires.1.1.1.1.1.1, (h.labelled, h.stamped)))),
-      )),
+      (
+        lives,
+        (
+          c.requires.1.1.1.0 ∙ sym reads.same_name,
+          (within, (among-here m.cursor.standing _ (inner-inside f l s among m reads h.labelled c.in-Inner.stamp h.given), (c.requires.1.1.1.1.1.1, (h.labelled, h.stamped)))),
+        ),
+      ),
     )
 
 pub judge_in_row-returns-in_ok-dir-in-Inner : goal.judge_in_row-returns-in_ok-dir-in-Inner
@@ -187,10 +188,13 @@ judge_inner-judge_row-requires g t c =
     let r = c.requires.1.1.1 in
     λ k lives. (
       omega arith,
-      (lives, (
-        r.0,
-        (r.1.0, (r.1.1.0, (opened-set f (frame_view c.in-Some.below) (shown_label c.lend-label.result) a (rw c.in-Some.is at c.in_ok-below.ensures) r.1.1.1.1.1 r.1.1.1.0, c.new-kids.ensures))),
-      )),
+      (
+        lives,
+        (
+          r.0,
+          (r.1.0, (r.1.1.0, (opened-set f (frame_view c.in-Some.below) (shown_label c.lend-label.result) a (rw c.in-Some.is at c.in_ok-below.ensures) r.1.1.1.1.1 r.1.1.1.0, c.new-kids.ensures))),
+        ),
+      ),
     )
 
 pub judge_inner-returns-in-Some : goal.judge_inner-returns-in-Some

@@ -1,5 +1,4 @@
-use Rattle.std.proofs.Common.{◌≡◌, Option, Some, None, sym, ap, ◌∙◌}
-use Rattle.archive_tree.specs.Data.{Stamp}
+use Rattle.std.proofs.Common.{◌≡◌, ap, ◌∙◌}
 use Rattle.archive_tree.specs.View.{stamp_view}
 use Rattle.keyed_tree.specs.Data.{PlainLabel}
 use Rattle.xa_fields.proofs.Fields.{some_is}
@@ -7,7 +6,7 @@ use Rattle.record_cursor.specs.View.{PlainCursor}
 use Rattle.record_cursor.specs.declared.fault.CursorFault.TheVariants.{Memory}
 use Rattle.record_parts.specs.ShownViews.{shown_label}
 use Rattle.node_judge.specs.FrameView.{frame_view, leaf_view}
-use Rattle.node_judge.specs.Rows.{PlainFrame, PlainLeaf, leaf_opened}
+use Rattle.node_judge.specs.Rows.{leaf_opened}
 use Rattle.node_walk.specs.Seen.{Seen, seen}
 use Rattle.node_walk.specs.Walked.{LeafJudged}
 use Rattle.node_walk.proofs.Inside.{leaf-judged, leaf-refused, leaf-memory}
