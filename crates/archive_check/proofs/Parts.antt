@@ -21,7 +21,6 @@ use Rattle.archive_file.specs.Laid.{RowAt}
 use Rattle.archive_file.specs.Sound.{SoundAs}
 use Rattle.archive_file.proofs.SoundLaws.{sound-has-header, sound-reads, sound-row}
 use Rattle.archive_file.proofs.SoundLaws as laws
-use Rattle.record_cursor.specs.Faults.{IfDamage}
 use Rattle.record_cursor.specs.Moves.{TellsFront, TellsHeader}
 use Rattle.record_cursor.specs.Spelled.{IsHeaderAt}
 use Rattle.record_cursor.specs.Steps.{IsCause}
