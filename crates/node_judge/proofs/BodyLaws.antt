@@ -4,7 +4,7 @@ use Rattle.std.specs.Prelude.{nat_lt, nat_le, bytes_eq}
 use Rattle.std.specs.Int.{w32}
 use Rattle.std.specs.Ordering.{is_eq}
 use Rattle.std.proofs.lemmas.Bool.Decides.{nat_tests}
-use Rattle.xa_fields.specs.Reading.{Reader, ◌>>=◌, number_at, chain_at, chained_at}
+use Rattle.xa_fields.specs.Reading.{◌>>=◌, number_at, chain_at, chained_at}
 use Rattle.xa_fields.specs.Spelling.{u32_bytes, list_bytes}
 use Rattle.xa_fields.proofs.Fields.{bind_some, some_is}
 use Rattle.jsonml_tree.specs.Data.{PlainAttr, PlainContent, content, no_trees, list_of, content_depth}

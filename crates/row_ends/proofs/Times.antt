@@ -1,9 +1,8 @@
 -- The intervals of the sets of all kids.
-use Rattle.std.proofs.Common.{◌≡◌, ℕ, zero, suc, ◌+◌, List, [], ◌∷◌, ◌++◌, ◌<◌, length, map, drop, get_or, replicate, Some, None, refl, sym, ap, ◌∙◌, append_assoc, append-nil, drop-cons, add-one, arith}
+use Rattle.std.proofs.Common.{◌≡◌, ℕ, zero, suc, ◌+◌, List, [], ◌∷◌, ◌++◌, ◌<◌, length, drop, get_or, replicate, Some, None, refl, sym, ap, ◌∙◌, append_assoc, append-nil, drop-cons, add-one, arith}
 use Rattle.std.specs.List.{flat_map}
 use Rattle.std.proofs.lemmas.List.{map-append}
 use Rattle.std.proofs.lemmas.List.Concat.{flat_map-append}
-use Rattle.archive_tree.specs.Data.{Stamp}
 use Rattle.record_format.specs.Nodes.{set_in}
 use Rattle.row_ends.specs.Kids.{stamps_in, sets_in}
 use Rattle.row_ends.proofs.Stamps.{Set}

@@ -1,5 +1,5 @@
 -- Bytes that are compared with those of a file, from the last to the first.
-use Rattle.std.specs.Prelude.{◌≡◌, ℕ, ◌-◌, ◌≤◌, Bool, List, ◌++◌, length, take, drop, bytes_eq}
+use Rattle.std.specs.Prelude.{ℕ, ◌-◌, Bool, List, ◌++◌, length, take, drop, bytes_eq}
 
 -- Where the bytes begin, where those that were compared begin, and the bytes in front of them that are expected and not yet compared.
 pub record PlainRoom : Type 0 where

@@ -1,4 +1,4 @@
-use Rattle.std.proofs.Common.{◌-◌, Some, sym, ap, ◌∙◌, drop, take, arith}
+use Rattle.std.proofs.Common.{Some, sym, ap, ◌∙◌, drop, arith}
 use Rattle.xa_fields.proofs.Fields.{some_is}
 use Rattle.record_parts.proofs.Local.{is_some_of}
 use Rattle.node_judge.proofs.Values.{value-between}

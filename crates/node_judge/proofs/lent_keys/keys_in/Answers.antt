@@ -1,5 +1,4 @@
-use Rattle.std.proofs.Common.{[], ◌++◌, ap, map, ◌∙◌}
-use Rattle.keyed_tree.specs.Data.{PlainKey}
+use Rattle.std.proofs.Common.{◌++◌, ap, map, ◌∙◌}
 use Rattle.record_parts.specs.ShownViews.{shown_body}
 use Rattle.node_judge.proofs.Values.{keys-there}
 use Rattle.node_judge.proofs.lent_keys.keys_in.Goals as goal

@@ -1,4 +1,4 @@
-use Rattle.std.proofs.Common.{◌≡◌, ◌++◌, ◌∙◌, ℕ, List, [], Ok, Err, length, map, ap, sym}
+use Rattle.std.proofs.Common.{◌++◌, ◌∙◌, ℕ, List, [], Ok, Err, length, map, ap, sym}
 use Rattle.std.specs.List.{flat_map}
 use Rattle.xa_fields.specs.Spelling.{u32_bytes}
 use Rattle.version_set.specs.View.{pairs_of}

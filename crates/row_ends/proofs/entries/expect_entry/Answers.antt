@@ -1,4 +1,4 @@
-use Rattle.std.proofs.Common.{◌≡◌, ◌++◌, Ok, Err}
+use Rattle.std.proofs.Common.{◌++◌, Ok, Err}
 use Rattle.xa_fields.specs.Spelling.{u64_bytes}
 use Rattle.row_ends.proofs.Steps.{rewritten, then, passes}
 use Rattle.row_ends.proofs.entries.expect_entry.Goals as goal

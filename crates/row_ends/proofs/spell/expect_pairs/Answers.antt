@@ -1,4 +1,4 @@
-use Rattle.std.proofs.Common.{◌≡◌, ◌-◌, ◌++◌, ◌∙◌, ℕ, List, Ok, Err, take, drop, slice_index_or, refl, sym, ap, arith}
+use Rattle.std.proofs.Common.{◌-◌, ◌++◌, ◌∙◌, ℕ, List, Ok, Err, take, drop, slice_index_or, refl, sym, ap, arith}
 use Rattle.std.specs.List.{flat_map}
 use Rattle.timestamp_tree.specs.Bytes.{pair_bytes}
 use Rattle.row_ends.specs.Expected.{so_far}

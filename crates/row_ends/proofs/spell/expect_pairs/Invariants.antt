@@ -1,4 +1,4 @@
-use Rattle.std.proofs.Common.{◌≡◌, ◌≤◌, length, drop}
+use Rattle.std.proofs.Common.{◌≤◌, length, drop}
 use Rattle.std.specs.List.{flat_map}
 use Rattle.timestamp_tree.specs.Bytes.{pair_bytes}
 use Rattle.row_ends.specs.Expected.{Expected, so_far}

@@ -1,4 +1,4 @@
-use Rattle.std.proofs.Common.{◌≡◌, ◌++◌, ◌∙◌, Ok, Err, length, ap}
+use Rattle.std.proofs.Common.{◌++◌, ◌∙◌, Ok, Err, length, ap}
 use Rattle.std.specs.List.{flat_map}
 use Rattle.xa_fields.specs.Spelling.{u32_bytes, u64_bytes}
 use Rattle.version_set.specs.View.{pairs_of}

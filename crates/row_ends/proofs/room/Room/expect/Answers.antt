@@ -1,4 +1,4 @@
-use Rattle.std.proofs.Common.{◌≡◌, ◌++◌, [], ap, append-nil, arith}
+use Rattle.std.proofs.Common.{◌++◌, [], ap, append-nil, arith}
 use Rattle.row_ends.specs.Expected.{so_far}
 use Rattle.row_ends.specs.Rooms.{PlainRoom}
 use Rattle.row_ends.proofs.Steps.{rewritten, then, passes, put-front}

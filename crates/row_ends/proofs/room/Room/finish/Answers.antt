@@ -1,4 +1,4 @@
-use Rattle.std.proofs.Common.{◌≡◌, ap, arith}
+use Rattle.std.proofs.Common.{ap, arith}
 use Rattle.row_ends.specs.Rooms.{PlainRoom}
 use Rattle.row_ends.proofs.Steps.{finished}
 use Rattle.row_ends.proofs.room.Room.finish.Goals as goal

@@ -1,4 +1,4 @@
-use Rattle.std.proofs.Common.{◌≡◌, arith, length-drop}
+use Rattle.std.proofs.Common.{arith, length-drop}
 use Rattle.row_ends.proofs.room.Room.new.Goals as goal
 
 pub invariant_of-result : goal.invariant_of-result
