@@ -34,7 +34,7 @@ pub fn check<F: Folder>(
 ) -> Result<u32, CheckFault>
     ensures files { F.files folder.new ≡ F.files folder.old }
     ensures draft { F.draft folder.new ≡ F.draft folder.old }
-    ensures numbers { PullsAtMost length (F.numbers folder.old) (F.numbers folder.new) }
+    ensures pulls { PullsAtMost length (F.numbers folder.old) (F.numbers folder.new) }
     ensures later { F.faults folder.old ≤ F.faults folder.new }
     ensures cause { result ≡ Err Folder → Rose (F.faults folder.old) (F.faults folder.new) }
 

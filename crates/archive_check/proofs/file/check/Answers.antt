@@ -7,7 +7,7 @@ returns g c =
     record {
       files = j.same_files;
       draft = j.same_draft;
-      numbers = j.pulls;
+      pulls = j.pulls;
       later = j.later;
       cause = j.cause;
       sound = λ files bytes told front. j.sound bytes (files, told, front);
