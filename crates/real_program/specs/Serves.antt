@@ -7,7 +7,8 @@ use Rattle.xarch_words.specs.Commands.{batch, command_of}
 use Rattle.xarch_words.specs.Refusal.{PlainFault, refused, usage, memory}
 use Rattle.xarch_parts.specs.Ends.{Gained}
 use Rattle.xarch_meanings.specs.Plausible.{Tried}
-use Rattle.xarch_meanings.specs.Ran.{MayHaveWritten, Said, outside_of}
+use Rattle.xarch_meanings.specs.Meanings.{MayHaveWritten}
+use Rattle.xarch_meanings.specs.Ran.{Said, outside_of}
 use Rattle.xarch_meanings.specs.Step.{single_of}
 use Rattle.xarch_run.specs.Batch.{BatchEnds, IsAnswer, Scene}
 use Rattle.xarch_run.specs.Calls.{DidCommands, call_of}

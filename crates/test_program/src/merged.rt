@@ -12,8 +12,7 @@ use keyed_tree::Keyed;
 use std::alloc::Global;
 use std::test::Fail;
 use xa_outside::MemFolder;
-use xarch_parts::file_of_versions;
-use xarch_run::run;
+use xarch_run::{file_of_versions, run};
 
 const COMPANY: &[u8] =
     b"(/, (db, {}))\n(/db, (dept, {name}))\n(/db/dept, (emp, {fn, ln}))\n(/db/dept/emp, (sal, {}))\n(/db/dept/emp, (tel, {.}))\n";

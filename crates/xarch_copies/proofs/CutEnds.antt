@@ -30,8 +30,9 @@ use Rattle.xarch_parts.specs.Inputs.{read_in}
 use Rattle.xarch_parts.specs.Outcome.{Outcome, and_then, or_refuse}
 use Rattle.xarch_parts.specs.Readings.{front_in}
 use Rattle.xarch_parts.specs.declared.front.Front.{Front}
-use Rattle.xarch_meanings.specs.Cut.{are_versions, cut_checked, noted_items, slice}
-use Rattle.xarch_meanings.specs.Plausible.{MayBe, MayMake, cut_input}
+use Rattle.xarch_meanings.specs.Cut.{are_versions, cut_checked, cut_input, noted_items, slice}
+use Rattle.xarch_meanings.specs.Meanings.{MayBe}
+use Rattle.xarch_meanings.specs.Over.{MayMake}
 use Rattle.xarch_copies.specs.Cutting.{Comes, CutEnds, NotesEnd, RecordsEnd}
 use Rattle.xarch_copies.proofs.Checking.{IsSeen, checked-given, checked-once, checked-refused, drafted, seen}
 
@@ -61,7 +62,6 @@ module _ (has_parts : (c : Contents) (bytes : List ℕ) (full : FullAs c bytes) 
 
   -- a refusal before the records are looked at
   pub may-refuse : (q : Refusal) → cut_input files name new i j ≡ Err q → MayBe files (command.cut name new i j) (Err q)
-  unfolding MayBe
   may-refuse q e = record {
     whatever = subst (λ x. GoesOn x (λ _. MayMake files name new) (Err q)) (sym e) refl;
     sound = λ c a.
@@ -76,7 +76,6 @@ module _ (has_parts : (c : Contents) (bytes : List ℕ) (full : FullAs c bytes) 
     -- the new file comes
     may-come : (bytes : List ℕ) → ((c : Contents) → ArchiveIs files name c → FullAs (slice i j c) bytes)
         → MayBe files (command.cut name new i j) (Ok (record { files = map.insert files new bytes; output = [] }))
-    unfolding MayBe
     may-come bytes full =
         let r : Result Outcome Refusal = Ok (record { files = map.insert files new bytes; output = [] }) in
         record {
@@ -86,7 +85,6 @@ module _ (has_parts : (c : Contents) (bytes : List ℕ) (full : FullAs c bytes) 
         }
 
     may-be-damaged : ((c : Contents) → ¬ ArchiveIs files name c) → MayBe files (command.cut name new i j) (Err (damaged name))
-    unfolding MayBe
     may-be-damaged none = record {
       whatever = subst (λ x. GoesOn x (λ _. MayMake files name new) (Err (damaged name))) (sym read) (inl refl);
       sound = λ c a. absurd (none c a);
@@ -94,7 +92,6 @@ module _ (has_parts : (c : Contents) (bytes : List ℕ) (full : FullAs c bytes) 
 
     may-be-long : ((c : Contents) → ArchiveIs files name c → (bytes : List ℕ) → ¬ FileOf c.rules (items i j c.versions) bytes)
         → MayBe files (command.cut name new i j) (Err (limit archive LONGEST))
-    unfolding MayBe
     may-be-long none =
         let r : Result Outcome Refusal = Err (limit archive LONGEST) in
         record {

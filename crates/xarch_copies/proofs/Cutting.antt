@@ -26,7 +26,7 @@ use Rattle.xarch_parts.specs.Ends.{IsCaused, IsInside, IsOfFolder, fault_of}
 use Rattle.xarch_parts.specs.Folders.{WritesOnly}
 use Rattle.xarch_parts.specs.Noted.{notes_bytes}
 use Rattle.xarch_parts.specs.declared.front.Front.{Front}
-use Rattle.xarch_meanings.specs.FillsUp.{IsLimited}
+use Rattle.xarch_meanings.specs.Meanings.{IsLimited}
 use Rattle.xarch_copies.specs.Cutting.{Comes, Cuts, IsToldAs, Makes, NotesEnd, RecordsEnd, Uncut, Unnoted}
 use Rattle.xarch_copies.specs.Extending.{Extends}
 use Rattle.xarch_copies.specs.Making.{behind_front}

@@ -35,8 +35,8 @@ use Rattle.xarch_parts.specs.Inputs.{file_length, read_in}
 use Rattle.xarch_parts.specs.Outcome.{Outcome, and_then, or_refuse}
 use Rattle.xarch_parts.specs.Readings.{core_in, front_in, front_of_core, parts_of}
 use Rattle.xarch_parts.specs.declared.front.Front.{Front}
-use Rattle.xarch_meanings.specs.Join.{JoinsFrom, are_joinable, join_checked, joined, room_for, same_keys}
-use Rattle.xarch_meanings.specs.Plausible.{MayBe, MayJoin, join_input}
+use Rattle.xarch_meanings.specs.Join.{are_joinable, join_checked, join_input, joined, JoinsFrom, MayJoin, room_for, same_keys}
+use Rattle.xarch_meanings.specs.Meanings.{MayBe}
 use Rattle.xarch_copies.specs.Cutting.{IsUnsound}
 use Rattle.xarch_copies.specs.Joining.{AreFound, BothNotesEnd, Comes, JoinEnds, RecordsEnd, fronts_in, fronts_read}
 use Rattle.xarch_copies.specs.Making.{StandsBefore}
@@ -186,7 +186,6 @@ module _ (has_parts : (c : Contents) (bytes : List ℕ) (full : FullAs c bytes) 
 
     -- a refusal before the records are looked at
     pub may-refuse : (q : Refusal) → join_input files one two new ≡ Err q → MayBe files (command.join one two new) (Err q)
-    unfolding MayBe
     may-refuse q e = record {
       whatever = subst (λ x. GoesOn x (λ _. MayJoin files one two new) (Err q)) (sym e) refl;
       first = λ c a w. first-whole c a (e ∙ refused-as q (damaged one) (same-refusal q (damaged one) w));
@@ -208,7 +207,6 @@ module _ (has_parts : (c : Contents) (bytes : List ℕ) (full : FullAs c bytes) 
       -- the new file comes
       may-come : (bytes : List ℕ) → ((c d : Contents) → ArchiveIs files one c → ArchiveIs files two d → FullAs (joined c d) bytes)
           → MayBe files (command.join one two new) (Ok (record { files = map.insert files new bytes; output = [] }))
-      unfolding MayBe
       may-come bytes full =
           let o : Outcome = record { files = map.insert files new bytes; output = [] } in
           record {
@@ -219,7 +217,6 @@ module _ (has_parts : (c : Contents) (bytes : List ℕ) (full : FullAs c bytes) 
           }
 
       first-damaged : ((c : Contents) → ¬ ArchiveIs files one c) → MayBe files (command.join one two new) (Err (damaged one))
-      unfolding MayBe
       first-damaged none = record {
         whatever = subst (λ x. GoesOn x (λ _. MayJoin files one two new) (Err (damaged one))) (sym read) (inl refl);
         first = λ c a w. none c a;
@@ -228,7 +225,6 @@ module _ (has_parts : (c : Contents) (bytes : List ℕ) (full : FullAs c bytes) 
       }
 
       second-damaged : ((c : Contents) → ¬ ArchiveIs files two c) → MayBe files (command.join one two new) (Err (damaged two))
-      unfolding MayBe
       second-damaged none = record {
         whatever = subst (λ x. GoesOn x (λ _. MayJoin files one two new) (Err (damaged two))) (sym read) (inr (inl refl));
         first = λ c a w. none c (subst (λ (n : List ℕ). ArchiveIs files n c) (sym (named two one w)) a);
@@ -238,7 +234,6 @@ module _ (has_parts : (c : Contents) (bytes : List ℕ) (full : FullAs c bytes) 
 
       may-be-long : ((c d : Contents) → ArchiveIs files one c → ArchiveIs files two d → (bytes : List ℕ) → ¬ FileOf c.rules (c.versions ++ d.versions) bytes)
           → MayBe files (command.join one two new) (Err (limit archive LONGEST))
-      unfolding MayBe
       may-be-long none =
           let r : Result Outcome Refusal = Err (limit archive LONGEST) in
           record {

@@ -20,7 +20,7 @@ use Rattle.xarch_parts.specs.Folders.{ReadsOnly, WritesOnly}
 use Rattle.xarch_parts.specs.Inputs.{size_in}
 use Rattle.xarch_parts.specs.Noted.{AreWithin}
 use Rattle.xarch_parts.specs.declared.front.Front.{Front}
-use Rattle.xarch_meanings.specs.FillsUp.{IsLimited}
+use Rattle.xarch_meanings.specs.Meanings.{IsLimited}
 use Rattle.xarch_copies.specs.Extending.{Extends}
 use Rattle.xarch_copies.specs.Making.{Asks, Fails, Makes, StandsBefore}
 use Rattle.xarch_copies.proofs.Extending.{caused-extended, caused-none, extends-appended, extends-more, extends-none, extends-then, streams-extended, streams-stored}

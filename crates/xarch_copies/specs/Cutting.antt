@@ -23,9 +23,8 @@ use Rattle.xarch_words.specs.declared.fault.Fault.{Fault}
 use Rattle.xarch_parts.specs.Inputs.{size_in}
 use Rattle.xarch_parts.specs.Noted.{notes_bytes}
 use Rattle.xarch_parts.specs.declared.front.Front.{Front}
-use Rattle.xarch_meanings.specs.Cut.{noted_items}
-use Rattle.xarch_meanings.specs.FillsUp.{IsLimited}
-use Rattle.xarch_meanings.specs.Plausible.{cut_input}
+use Rattle.xarch_meanings.specs.Cut.{cut_input, noted_items}
+use Rattle.xarch_meanings.specs.Meanings.{IsLimited}
 use Rattle.xarch_copies.specs.Extending.{Extends}
 use Rattle.xarch_copies.specs.Making as making
 use Rattle.xarch_copies.specs.Making.{Asks, Fails, StandsBefore, behind_front, front_read}

@@ -23,7 +23,7 @@ use Rattle.xarch_parts.specs.Inputs.{file_length, read_in, size_in}
 use Rattle.xarch_parts.specs.Outcome.{and_then}
 use Rattle.xarch_parts.specs.Readings.{front_in}
 use Rattle.xarch_parts.specs.declared.front.Front.{Front}
-use Rattle.xarch_meanings.specs.FillsUp.{IsLimited}
+use Rattle.xarch_meanings.specs.Meanings.{IsLimited}
 use Rattle.xarch_meanings.specs.Join.{are_joinable}
 use Rattle.xarch_copies.specs.Cutting.{IsUnsound, NotesEnd}
 use Rattle.xarch_copies.specs.Extending.{Extends}

@@ -12,7 +12,7 @@ use Rattle.xarch_parts.specs.Folders.{ReadsOnly, Streams}
 use Rattle.xarch_parts.specs.Inputs.{size_in}
 use Rattle.xarch_parts.specs.Noted.{AreWithin, notes_bytes}
 use Rattle.xarch_parts.specs.declared.front.Front.{Front}
-use Rattle.xarch_meanings.specs.FillsUp.{IsLimited}
+use Rattle.xarch_meanings.specs.Meanings.{IsLimited}
 use Rattle.xarch_copies.specs.Extending.{Extends}
 
 -- ---- what is read first

@@ -8,7 +8,7 @@ ghost use Rattle.xarch_words.specs.View.{fault_view};
 ghost use Rattle.xa_outside.specs.Folder.{IsBlank};
 ghost use Rattle.xarch_parts.specs.Ends.{IsInside, Matches, fault_of};
 ghost use Rattle.xarch_meanings.specs.Cut.{are_versions};
-ghost use Rattle.xarch_meanings.specs.FillsUp.{FillsUp, IsLimited};
+ghost use Rattle.xarch_meanings.specs.Meanings.{FillsUp, IsLimited};
 ghost use Rattle.xarch_meanings.specs.Performs.{Performs};
 ghost use Rattle.xarch_copies.specs.Cutting.{Cuts, Fronts, IsToldAs, Makes, Uncut};
 

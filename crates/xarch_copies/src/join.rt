@@ -11,10 +11,9 @@ ghost use Rattle.xarch_words.specs.Refusal as refusal;
 ghost use Rattle.xarch_words.specs.View.{fault_view};
 ghost use Rattle.xarch_parts.specs.Archives.{IsRefusal};
 ghost use Rattle.xarch_parts.specs.Ends.{IsInside, Matches, fault_of};
-ghost use Rattle.xarch_meanings.specs.FillsUp.{FillsUp, IsLimited};
-ghost use Rattle.xarch_meanings.specs.Join.{are_joinable};
+ghost use Rattle.xarch_meanings.specs.Meanings.{FillsUp, IsLimited};
+ghost use Rattle.xarch_meanings.specs.Join.{are_joinable, join_input};
 ghost use Rattle.xarch_meanings.specs.Performs.{Performs};
-ghost use Rattle.xarch_meanings.specs.Plausible.{join_input};
 ghost use Rattle.xarch_copies.specs.Joining.{Assembles, Fronts, GoTogether, IsSize, IsToldAs, Joins, Unjoined, fronts_in};
 ghost use Rattle.xa_outside.specs.Folder.{IsBlank};
 

@@ -17,22 +17,29 @@ use Rattle.archive_text.specs.Export.{ExportOf, export_text}
 use Rattle.xarch_gen.specs.Company.{company_rules}
 use Rattle.xarch_words.specs.Commands.{PlainCommand, norm, init, add, rekey, get, history, log, check, stats, versions, export, import, cut, join, table, tablekeys, batch, demo}
 use Rattle.xarch_words.specs.Refusal.{Refusal, no_file, key_fault_in, damaged}
-use Rattle.xarch_meanings.specs.Add.{AddsTo, added}
+use Rattle.xarch_meanings.specs.Add.{add_input, added, AddsTo, MayAdd}
 use Rattle.xarch_meanings.specs.Check.{IsFound, check_text}
-use Rattle.xarch_meanings.specs.Cut.{CutsFrom, cut_checked, slice}
+use Rattle.xarch_meanings.specs.Cut.{cut_checked, cut_input, CutsFrom, slice}
 use Rattle.xarch_meanings.specs.Export.{ExportsFrom}
 use Rattle.xarch_parts.specs.Archives.{ArchiveIs, GoesOn, Opens, Stores, short_note}
 use Rattle.xarch_meanings.specs.Demo.{MakesOrNone, demo_input, samples}
 use Rattle.xarch_meanings.specs.Import.{ImportsFrom, import_text}
 use Rattle.xarch_meanings.specs.Init.{init_rules}
-use Rattle.xarch_meanings.specs.Join.{joined, JoinsFrom, join_checked}
+use Rattle.xarch_meanings.specs.Join.{join_checked, join_input, joined, JoinsFrom, MayJoin, MayOverBoth}
 use Rattle.xarch_parts.specs.Inputs.{file_of}
 use Rattle.xarch_parts.specs.Outcome.{Outcome, Step, step_from}
-use Rattle.xarch_meanings.specs.Plausible.{DamagedOrSound, IsLate, MayAdd, MayOver, MayWrite, MayBe, MayComeLate, MayDo, MayJoin, MayMake, MayOverBoth, Plausible, add_input, cut_input, get_input, history_input, join_input, log_input, stats_input, versions_input}
-use Rattle.xarch_meanings.specs.PlausibleLaws.{late-three, late-unlisted, late-unlogged, late-unsound, plain-step}
-use Rattle.xarch_meanings.specs.Rekey.{RekeysTo, rekey_rules}
-use Rattle.xarch_meanings.specs.Stats.{CountsFrom, counts_text, noted_counts}
-use Rattle.xarch_meanings.specs.Step.{OutcomeIs, DoesOrRefuses, Defines, StepIs, single_of}
+use Rattle.xarch_meanings.specs.Plausible.{IsLate, Plausible}
+use Rattle.xarch_meanings.specs.Over.{DamagedOrSound, MayMake, MayOver, MayWrite}
+use Rattle.xarch_meanings.specs.Meanings.{DoesOrRefuses, MayBe, MayComeLate, MayDo, OutcomeIs}
+use Rattle.xarch_meanings.specs.Get.{GetsFrom, get_input}
+use Rattle.xarch_meanings.specs.History.{TellsFrom, history_input}
+use Rattle.xarch_meanings.specs.Log.{LogsFrom, log_input}
+use Rattle.xarch_meanings.specs.Versions.{ListsFrom, versions_input}
+use Rattle.xarch_meanings.specs.PlausibleLaws.{late-unlisted, late-unlogged, late-unsound, plain-step}
+use Rattle.xarch_meanings.specs.Rekey.{RekeysFrom, RekeysTo, rekey_rules}
+use Rattle.xarch_meanings.specs.Stats.{CountsFrom, noted_counts, stats_input}
+use Rattle.xarch_parts.specs.Counts.{counts_text}
+use Rattle.xarch_meanings.specs.Step.{Defines, StepIs, single_of}
 
 module _ (one_archive : (vs : List PlainKeyed) (a b : PlainArchive) → ArchiveOf vs a → ArchiveOf vs b → a ≡ b)
     (one_file : (rules : List PlainRule) (vs : List PlainKeyed) (b c : List ℕ) → FileOf rules vs b → FileOf rules vs c → b ≡ c)
@@ -166,43 +173,38 @@ module _ (one_archive : (vs : List PlainKeyed) (a b : PlainArchive) → ArchiveO
   rekey_absent : (files : Files) (name spec : List ℕ) → map.get files name ≡ None → rekey_rules files name spec ≡ Err (no_file name)
   rekey_absent files name spec e = rw e refl
 
+  -- what an archive comes to that is absent or sound
+  one_over : {A : Type 0} (files : Files) (name : List ℕ) (x : Result A Refusal) (P : A → Result Outcome Refusal → Type 0) (Q : Contents → Result Outcome Refusal → Type 0) → (map.get files name ≡ None → x ≡ Err (no_file name))
+      → ((c : Contents) (r s : Result Outcome Refusal) → Q c r → Q c s → s ≡ r) → (r s : Result Outcome Refusal) → Opens files name Q r → MayOver files name (GoesOn x P) Q s → s ≡ r
+  one_over files name x P Q none one r s (inl p) q = subst (λ y. GoesOn y P s) (none p.absent) q.whatever ∙ sym p.is
+  one_over files name x P Q none one r s (inr p) q = one p.contents r s p.rest (q.sound p.contents p.archive)
+
   -- what an `add` that is short enough comes to
   one_added : (files : Files) (name doc note : List ℕ) (r s : Result Outcome Refusal) → Opens files name (AddsTo files name doc note) r
       → MayOver files name (GoesOn (add_input files name doc) (λ _. MayAdd files name)) (AddsTo files name doc note) s → s ≡ r
-  one_added files name doc note r s (inl p) q = subst (λ x. GoesOn x (λ _. MayAdd files name) s) (add_absent files name doc p.absent) q.whatever ∙ sym p.is
-  one_added files name doc note r s (inr p) q =
-      one_way (added files doc p.contents.rules (length p.contents.versions)) (λ k. Stores files name (with_version p.contents k note)) (λ k. one_stored files name (with_version p.contents k note)) r s p.rest
-      (q.sound p.contents p.archive)
+  one_added files name doc note = one_over files name (add_input files name doc) (λ _. MayAdd files name) (AddsTo files name doc note) (add_absent files name doc)
+      (λ c. one_way (added files doc c.rules (length c.versions)) (λ k. Stores files name (with_version c k note)) (λ k. one_stored files name (with_version c k note)))
 
   one_either : {A : Type 0} (x : Result A Refusal) (P Q : A → Result Outcome Refusal → Type 0) → ((a : A) (r s : Result Outcome Refusal) → P a r → Q a s → s ≡ r) → (r s : Result Outcome Refusal) → GoesOn x P r → GoesOn x Q s → s ≡ r
   one_either (Ok a) P Q h r s p q = h a r s p q
   one_either (Err e) P Q h r s p q = q ∙ sym p
 
   one : (files : Files) (command : PlainCommand) (r s : Result Outcome Refusal) → OutcomeIs files command r → MayBe files command s → s ≡ r
-  unfolding OutcomeIs MayBe
   one files (norm spec doc) r s p q = q ∙ sym p
   one files (init name spec) r s p q = one_way (init_rules files name spec) (λ rules. Stores files name (unnoted rules [])) (λ rules. one_stored files name (unnoted rules [])) r s p q
   one files (add name doc note) r s p q =
       one_either (short_note note) (λ _. Opens files name (AddsTo files name doc note)) (λ _. MayOver files name (GoesOn (add_input files name doc) (λ _. MayAdd files name)) (AddsTo files name doc note)) (λ _. one_added files name doc note) r s p q
-  one files (rekey name spec) r s (inl p) q = subst (λ x. GoesOn x (λ _. DamagedOrSound files name) s) (rekey_absent files name spec p.absent) q.whatever ∙ sym p.is
-  one files (rekey name spec) r s (inr p) q =
-      one_way (rekey_rules files name spec) (RekeysTo files name p.contents) (one_rekeyed files name p.contents) r s p.rest (q.sound p.contents p.archive)
-  one files (get name i) r s (inl p) q = subst (λ x. GoesOn x (λ _. MayWrite files name) s) (get_absent files name i p.absent) q.whatever ∙ sym p.is
-  one files (get name i) r s (inr p) q = q.sound p.contents p.archive ∙ sym p.rest
-  one files (history name path) r s (inl p) q = subst (λ x. GoesOn x (λ _. MayWrite files name) s) (history_absent files name path p.absent) q.whatever ∙ sym p.is
-  one files (history name path) r s (inr p) q = q.sound p.contents p.archive ∙ sym p.rest
-  one files (log name path) r s (inl p) q = subst (λ x. GoesOn x (λ _. MayWrite files name) s) (log_absent files name path p.absent) q.whatever ∙ sym p.is
-  one files (log name path) r s (inr p) q = q.sound p.contents p.archive ∙ sym p.rest
+  one files (rekey name spec) r s p q = one_over files name (rekey_rules files name spec) (λ _. DamagedOrSound files name) (RekeysFrom files name spec) (rekey_absent files name spec)
+      (λ c. one_way (rekey_rules files name spec) (RekeysTo files name c) (one_rekeyed files name c)) r s p q
+  one files (get name i) r s p q = one_over files name (get_input files name i) (λ _. MayWrite files name) (GetsFrom files i) (get_absent files name i) (λ c a b e f. f ∙ sym e) r s p q
+  one files (history name path) r s p q = one_over files name (history_input files name path) (λ _. MayWrite files name) (TellsFrom files path) (history_absent files name path) (λ c a b e f. f ∙ sym e) r s p q
+  one files (log name path) r s p q = one_over files name (log_input files name path) (λ _. MayWrite files name) (LogsFrom files path) (log_absent files name path) (λ c a b e f. f ∙ sym e) r s p q
   one files (check name) r s p q = one_way (file_of files name) (IsFound files name) (one_found files name) r s p q
-  one files (stats name) r s (inl p) q = subst (λ x. GoesOn x (λ _. MayWrite files name) s) (stats_absent files name p.absent) q.whatever ∙ sym p.is
-  one files (stats name) r s (inr p) q = one_counted files p.contents r s p.rest (q.sound p.contents p.archive)
-  one files (versions name) r s (inl p) q = subst (λ x. GoesOn x (λ _. MayWrite files name) s) (versions_absent files name p.absent) q.whatever ∙ sym p.is
-  one files (versions name) r s (inr p) q = q.sound p.contents p.archive ∙ sym p.rest
-  one files (export name) r s (inl p) q = subst (λ x. GoesOn x (λ _. DamagedOrSound files name) s) (stats_absent files name p.absent) q.whatever ∙ sym p.is
-  one files (export name) r s (inr p) q = one_exported files p.contents r s p.rest (q.sound p.contents p.archive)
+  one files (stats name) r s p q = one_over files name (stats_input files name) (λ _. MayWrite files name) (CountsFrom files) (stats_absent files name) (one_counted files) r s p q
+  one files (versions name) r s p q = one_over files name (versions_input files name) (λ _. MayWrite files name) (ListsFrom files) (versions_absent files name) (λ c a b e f. f ∙ sym e) r s p q
+  one files (export name) r s p q = one_over files name (stats_input files name) (λ _. DamagedOrSound files name) (ExportsFrom files) (stats_absent files name) (one_exported files) r s p q
   one files (import text new) r s p q = one_way (import_text files text new) (ImportsFrom files new) (one_imported files new) r s p q
-  one files (cut name new i j) r s (inl p) q = subst (λ x. GoesOn x (λ _. MayMake files name new) s) (cut_absent files name new i j p.absent) q.whatever ∙ sym p.is
-  one files (cut name new i j) r s (inr p) q = one_cut files new i j p.contents r s p.rest (q.sound p.contents p.archive)
+  one files (cut name new i j) r s p q = one_over files name (cut_input files name new i j) (λ _. MayMake files name new) (CutsFrom files new i j) (cut_absent files name new i j) (one_cut files new i j) r s p q
   one files (join first two new) r s (inl p) q = subst (λ x. GoesOn x (λ _. MayJoin files first two new) s) (join_absent files first two new p.absent) q.whatever ∙ sym p.is
   one files (join first two new) r s (inr p) q = one_behind files first two new p.contents r s p.archive p.rest q
   one files (table csv tag keys doc) r s p q = q ∙ sym p
@@ -218,44 +220,37 @@ module _ (one_archive : (vs : List PlainKeyed) (a b : PlainArchive) → ArchiveO
   pub one_outcome : (files : Files) (words : List (List ℕ)) (r s : Result Outcome Refusal) → Defines files words r → MayDo files (single_of words) s → s ≡ r
   one_outcome files words r s p q = one_does files (single_of words) r s p q
 
-  damage_or_none : (name : List ℕ) → ◌≡◌ {A = Result Outcome Refusal} (Err (damaged name)) (Err (no_file name)) → ⊥
-  damage_or_none name e = cc
+  -- where the outcome is defined, no refusal comes late: an archive that is not there is not damaged
+  late_absent : (name : List ℕ) (e : Refusal) (r : Result Outcome Refusal) → e ≡ damaged name → Err e ≡ r → r ≡ Err (no_file name) → ⊥
+  late_absent name e r damage same missing = (let wrong : ◌≡◌ {A = Result Outcome Refusal} (Err (damaged name)) (Err (no_file name)) = ap (λ q. Err q) (sym damage) ∙ same ∙ missing in cc)
 
-  -- where the outcome is defined, no refusal comes late
-  none_late : (files : Files) (command : PlainCommand) (r s : Result Outcome Refusal) → OutcomeIs files command r → MayBe files command s → ¬ IsLate files (Some command) s
-  unfolding OutcomeIs
-  none_late files command r (Ok o) p q late = late
-  none_late files command r (Err e) p q late =
-      late-three files command e ⊥ late
-      (λ name i is damage. by_archive name i damage (subst (λ (c : PlainCommand). OutcomeIs files c r) is p) (subst (λ (c : PlainCommand). MayBe files c (Err e)) is q) (subst (λ (c : PlainCommand). MayComeLate files (Some c) e) is late))
-      (λ name path is damage. by_log name path damage (subst (λ (c : PlainCommand). OutcomeIs files c r) is p) (subst (λ (c : PlainCommand). MayBe files c (Err e)) is q) (subst (λ (c : PlainCommand). MayComeLate files (Some c) e) is late))
-      (λ name is damage. by_list name damage (subst (λ (c : PlainCommand). OutcomeIs files c r) is p) (subst (λ (c : PlainCommand). MayBe files c (Err e)) is q) (subst (λ (c : PlainCommand). MayComeLate files (Some c) e) is late))
-    where
-      by_list : (name : List ℕ) → e ≡ damaged name → OutcomeIs files (versions name) r → MayBe files (versions name) (Err e) → MayComeLate files (Some (versions name)) e → ⊥
-      by_list name damage (inl missing) m late =
-          let same : Err e ≡ r = one files (versions name) r (Err e) (inl missing) m in
-          let wrong : ◌≡◌ {A = Result Outcome Refusal} (Err (damaged name)) (Err (no_file name)) = ap (λ q. Err q) (sym damage) ∙ same ∙ missing.is in
-          damage_or_none name wrong
-      by_list name damage (inr opened) m late = late-unlisted files name opened.contents (Err e) opened.archive m late
-
-      by_log : (name path : List ℕ) → e ≡ damaged name → OutcomeIs files (log name path) r → MayBe files (log name path) (Err e) → MayComeLate files (Some (log name path)) e → ⊥
-      by_log name path damage (inl missing) m late =
-          let same : Err e ≡ r = one files (log name path) r (Err e) (inl missing) m in
-          let wrong : ◌≡◌ {A = Result Outcome Refusal} (Err (damaged name)) (Err (no_file name)) = ap (λ q. Err q) (sym damage) ∙ same ∙ missing.is in
-          damage_or_none name wrong
-      by_log name path damage (inr opened) m late = late-unlogged files name path opened.contents (Err e) opened.archive m late
-
-      by_archive : (name : List ℕ) (i : ℕ) → e ≡ damaged name → OutcomeIs files (get name i) r → MayBe files (get name i) (Err e) → MayComeLate files (Some (get name i)) e → ⊥
-      by_archive name i damage (inl missing) m late =
-          let same : Err e ≡ r = one files (get name i) r (Err e) (inl missing) m in
-          let wrong : ◌≡◌ {A = Result Outcome Refusal} (Err (damaged name)) (Err (no_file name)) = ap (λ q. Err q) (sym damage) ∙ same ∙ missing.is in
-          damage_or_none name wrong
-      by_archive name i damage (inr opened) m late = late-unsound files name i opened.contents (Err e) opened.archive m late
+  none_late : (files : Files) (command : PlainCommand) (r : Result Outcome Refusal) (e : Refusal) → OutcomeIs files command r → MayBe files command (Err e) → ¬ MayComeLate files (Some command) e
+  none_late files (norm spec doc) r e p q late = late
+  none_late files (init name spec) r e p q late = late
+  none_late files (add name doc note) r e p q late = late
+  none_late files (rekey name spec) r e p q late = late
+  none_late files (get name i) r e (inl p) q late = late_absent name e r late.0 (one files (get name i) r (Err e) (inl p) q) p.is
+  none_late files (get name i) r e (inr p) q late = late-unsound files name i p.contents (Err e) p.archive q late
+  none_late files (history name path) r e p q late = late
+  none_late files (log name path) r e (inl p) q late = late_absent name e r late.0 (one files (log name path) r (Err e) (inl p) q) p.is
+  none_late files (log name path) r e (inr p) q late = late-unlogged files name path p.contents (Err e) p.archive q late
+  none_late files (check name) r e p q late = late
+  none_late files (stats name) r e p q late = late
+  none_late files (versions name) r e (inl p) q late = late_absent name e r late.0 (one files (versions name) r (Err e) (inl p) q) p.is
+  none_late files (versions name) r e (inr p) q late = late-unlisted files name p.contents (Err e) p.archive q late
+  none_late files (export name) r e p q late = late
+  none_late files (import text new) r e p q late = late
+  none_late files (cut name new i j) r e p q late = late
+  none_late files (join first two new) r e p q late = late
+  none_late files (table csv tag keys doc) r e p q late = late
+  none_late files (tablekeys tag keys spec) r e p q late = late
+  none_late files batch r e p q late = late
+  none_late files (demo seed count name) r e p q late = late
 
   none_does : (files : Files) (command : Option PlainCommand) (r s : Result Outcome Refusal) → DoesOrRefuses files command r → MayDo files command s → ¬ IsLate files command s
-  none_does files None r (Ok o) p q late = late
+  none_does files c r (Ok o) p q late = late
   none_does files None r (Err e) p q late = late
-  none_does files (Some command) r s p q late = none_late files command r s p q late
+  none_does files (Some command) r (Err e) p q late = none_late files command r e p q late
 
   -- no other step than the defined one
   pub one_step : (files : Files) (words : List (List ℕ)) (s t : Step) → StepIs files words s → Plausible files words t → s ≡ t

@@ -5,7 +5,7 @@ use Rattle.key_spec.specs.Data.{PlainRule}
 use Rattle.keyed_tree.specs.Data.{PlainKeyed}
 use Rattle.archive_tree.specs.History.{hist}
 use Rattle.record_format.specs.Files.{FileOf}
-use Rattle.noted_file.specs.Contents.{Contents, unnoted, with_keys, with_version}
+use Rattle.noted_file.specs.Contents.{Contents, header_of, unnoted, with_keys, with_version}
 use Rattle.noted_file.specs.Full.{Full, FullAs}
 use Rattle.archive_text.specs.Export.{ExportOf}
 use Rattle.content_log.specs.Text.{log_text}
@@ -20,14 +20,15 @@ use Rattle.xarch_meanings.specs.Cut.{slice}
 use Rattle.xarch_meanings.specs.Demo.{MakesOrNone, samples}
 use Rattle.xarch_meanings.specs.History.{numbers_text}
 use Rattle.xarch_meanings.specs.Import.{ImportsFrom}
-use Rattle.xarch_meanings.specs.Join.{joined}
-use Rattle.xarch_meanings.specs.Rekey.{RekeysTo}
+use Rattle.xarch_meanings.specs.Join.{join_checked, joined}
+use Rattle.xarch_meanings.specs.Rekey.{IsRekeyed, RekeysTo}
 use Rattle.keyed_print.specs.KeyedText.{keyed_text}
 use Rattle.xarch_parts.specs.Outcome.{and_then, or_refuse}
-use Rattle.xarch_meanings.specs.Add.{AddsTo}
-use Rattle.xarch_meanings.specs.Plausible.{MayAdd, MayBe, MayOver, add_input}
+use Rattle.xarch_meanings.specs.Add.{IsHandedIn, add_input, AddsTo, MayAdd}
+use Rattle.xarch_meanings.specs.Meanings.{MayBe, ShouldSucceed}
+use Rattle.xarch_meanings.specs.Over.{HasArchiveWith, HasFile, MayOver}
+use Rattle.xarch_meanings.specs.CommandLaws.{single-alone}
 use Rattle.xarch_meanings.specs.Step.{alone}
-use Rattle.xarch_meanings.specs.Succeeds.{ShouldSucceed}
 
 -- a refusal is no value
 clash : {A X : Type 0} (q : Refusal) (x : A) → ◌≡◌ {A = Result A Refusal} (Err q) (Ok x) → X
@@ -58,23 +59,24 @@ module _ (one_list : (rules : List PlainRule) (vs us ws : List PlainKeyed) → A
   not_rekeyed files name c rules us bytes q are file (inr p) = apart rules c.versions us p.number p.fault are p.first
 
   pub never_refused : (files : Files) (command : PlainCommand) (q : Refusal) → ShouldSucceed files command → MayBe files command (Err q) → ⊥
-  unfolding ShouldSucceed MayBe
   never_refused files (norm spec doc) q h m = clash q h.value (m ∙ h.is)
   never_refused files (init name spec) q h m =
-      not_stored files name (unnoted h.rules []) h.bytes q h.file (subst (λ (x : Result (List PlainRule) Refusal). GoesOn x (λ rules. Stores files name (unnoted rules [])) (Err q)) h.specified m)
+      not_stored files name (unnoted h.0 []) h.1.1.0 q h.1.1.1 (subst (λ (x : Result (List PlainRule) Refusal). GoesOn x (λ rules. Stores files name (unnoted rules [])) (Err q)) h.1.0 m)
   never_refused files (add name doc note) q h m =
-      let over = subst (λ (x : Result Unit Refusal). GoesOn x (λ _. MayOver files name (GoesOn (add_input files name doc) (λ _. MayAdd files name)) (AddsTo files name doc note)) (Err q)) h.short m in
-      not_stored files name (with_version h.contents h.tree note) h.bytes q h.file
-      (subst (λ (x : Result PlainKeyed Refusal). GoesOn x (λ k. Stores files name (with_version h.contents k note)) (Err q)) h.keyed (over.sound h.contents h.archive))
+      let handed : IsHandedIn files doc note h.contents h.is.0 = h.is.1 in
+      let over = subst (λ (x : Result Unit Refusal). GoesOn x (λ _. MayOver files name (GoesOn (add_input files name doc) (λ _. MayAdd files name)) (AddsTo files name doc note)) (Err q)) handed.short m in
+      not_stored files name (with_version h.contents h.is.0 note) handed.bytes q handed.file
+      (subst (λ (x : Result PlainKeyed Refusal). GoesOn x (λ k. Stores files name (with_version h.contents k note)) (Err q)) handed.satisfies (over.sound h.contents h.archive))
   never_refused files (rekey name spec) q h m =
-      not_rekeyed files name h.contents h.rules h.under h.bytes q h.satisfied h.file
-      (subst (λ (x : Result (List PlainRule) Refusal). GoesOn x (RekeysTo files name h.contents) (Err q)) h.specified (m.sound h.contents h.archive))
+      let keys : IsRekeyed files name spec h.contents h.is.0 = h.is.1 in
+      not_rekeyed files name h.contents h.is.0.rules h.is.0.versions keys.bytes q keys.satisfied keys.file
+      (subst (λ (x : Result (List PlainRule) Refusal). GoesOn x (RekeysTo files name h.contents) (Err q)) keys.specified (m.sound h.contents h.archive))
   never_refused files (get name i) q h m =
-      clash q _ (m.sound h.contents h.archive ∙ ap (λ (o : Option PlainKeyed). and_then (or_refuse o (no_version i (length h.contents.versions))) (λ k. Ok (record { files = files; output = keyed_text k }))) h.there)
+      clash q _ (m.sound h.contents h.archive ∙ ap (λ (o : Option PlainKeyed). and_then (or_refuse o (no_version i (length h.contents.versions))) (λ k. Ok (record { files = files; output = keyed_text k }))) h.is.1)
   never_refused files (history name path) q h m =
-      clash q _ (m.sound h.contents h.archive ∙ ap (λ x. and_then x (λ labels. Ok (record { files = files; output = numbers_text (hist h.contents.versions labels) }))) h.spelled)
+      clash q _ (m.sound h.contents h.archive ∙ ap (λ x. and_then x (λ labels. Ok (record { files = files; output = numbers_text (hist h.contents.versions labels) }))) h.is.is)
   never_refused files (log name path) q h m =
-      clash q _ (m.sound h.contents h.archive ∙ ap (λ x. and_then x (λ labels. Ok (record { files = files; output = log_text h.contents.versions labels }))) h.spelled)
+      clash q _ (m.sound h.contents h.archive ∙ ap (λ x. and_then x (λ labels. Ok (record { files = files; output = log_text h.contents.versions labels }))) h.is.is)
   never_refused files (check name) q h m = not_found files name h.archive.bytes q (subst (λ o. GoesOn (or_refuse o (no_file name)) (IsFound files name) (Err q)) h.archive.there m) (record { contents = h.contents; is = h.archive.full })
   never_refused files (stats name) q h m = clash q _ (m.sound h.contents h.archive).is
   never_refused files (versions name) q h m = clash q _ (m.sound h.contents h.archive)
@@ -82,35 +84,18 @@ module _ (one_list : (rules : List PlainRule) (vs us ws : List PlainKeyed) → A
   never_refused files (import text new) q h m =
       not_imported files new h.bytes h.contents h.file q h.full h.spelled (subst (λ (x : Result (List ℕ) Refusal). GoesOn x (ImportsFrom files new) (Err q)) h.there m)
   never_refused files (cut name new i j) q h m =
-      not_stored files new (slice i j h.contents) h.bytes q h.file
-      (subst (λ (x : Result Unit Refusal). GoesOn x (λ _. Stores files new (slice i j h.contents)) (Err q)) h.checked (m.sound h.contents h.archive))
+      not_stored files new (slice i j h.contents) h.is.1.0 q h.is.1.1
+      (subst (λ (x : Result Unit Refusal). GoesOn x (λ _. Stores files new (slice i j h.contents)) (Err q)) h.is.0 (m.sound h.contents h.archive))
   never_refused files (join one two new) q h m =
-      not_stored files new (joined h.contents h.behind) h.bytes q h.file
-      (subst (λ (x : Result Unit Refusal). GoesOn x (λ _. Stores files new (joined h.contents h.behind)) (Err q)) h.checked (m.sound h.contents h.behind h.first h.second))
+      let g : HasArchiveWith files two (λ d. (join_checked files one two new (header_of h.contents) (header_of d) ≡ Ok tt) × HasFile (joined h.contents d)) = h.is in
+      not_stored files new (joined h.contents g.contents) g.is.1.0 q g.is.1.1
+      (subst (λ (x : Result Unit Refusal). GoesOn x (λ _. Stores files new (joined h.contents g.contents)) (Err q)) g.is.0 (m.sound h.contents g.contents h.archive g.archive))
   never_refused files (table csv tag keys doc) q h m = clash q h.value (m ∙ h.is)
   never_refused files (tablekeys tag keys spec) q h m = clash q h.value (m ∙ h.is)
   never_refused files batch q h m = h
   never_refused files (demo seed count name) q h m =
-      not_made files name seed count h.bytes q h.file (subst (λ (x : Result Unit Refusal). GoesOn x (λ _. MakesOrNone files name seed count) (Err q)) h.checked m)
+      not_made files name seed count h.1.0 q h.1.1 (subst (λ (x : Result Unit Refusal). GoesOn x (λ _. MakesOrNone files name seed count) (Err q)) h.0 m)
 
 -- and it is one by itself
 pub one_alone : (files : Files) (command : PlainCommand) → ShouldSucceed files command → alone (Some command) ≡ Some command
-unfolding ShouldSucceed
-one_alone files (norm spec doc) h = refl
-one_alone files (init name spec) h = refl
-one_alone files (add name doc note) h = refl
-one_alone files (rekey name spec) h = refl
-one_alone files (get name i) h = refl
-one_alone files (history name path) h = refl
-one_alone files (log name path) h = refl
-one_alone files (check name) h = refl
-one_alone files (stats name) h = refl
-one_alone files (versions name) h = refl
-one_alone files (export name) h = refl
-one_alone files (import text new) h = refl
-one_alone files (cut name new i j) h = refl
-one_alone files (join one two new) h = refl
-one_alone files (table csv tag keys doc) h = refl
-one_alone files (tablekeys tag keys spec) h = refl
-one_alone files batch h = absurd h
-one_alone files (demo seed count name) h = refl
+one_alone files command h = single-alone command (λ is. subst (ShouldSucceed files) is h)

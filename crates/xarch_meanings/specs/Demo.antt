@@ -1,5 +1,5 @@
 -- What `demo` does: it makes an archive of generated documents.
-use Rattle.std.specs.Prelude.{◌≡◌, ◌⊎◌, ℕ, List, map, Result, Ok}
+use Rattle.std.specs.Prelude.{◌≡◌, ◌⊎◌, ℕ, List, map, Result, Ok, ◌<◌, Some}
 use Rattle.std.specs.List.{range_with_len}
 use Rattle.std.specs.FinMap as finite
 use Rattle.xa_outside.specs.Folder.{Files}
@@ -13,12 +13,14 @@ use Rattle.archive_stats.specs.Counts.{PlainCounts, counts}
 use Rattle.xarch_gen.specs.Company.{company_rules}
 use Rattle.xarch_gen.specs.Sample.{sample_of}
 use Rattle.noted_file.specs.Contents.{unnoted}
-use Rattle.xarch_words.specs.Refusal.{demo, Refusal}
+use Rattle.xarch_words.specs.Refusal.{demo, Refusal, limit, refused}
 use Rattle.xarch_words.specs.declared.limits.TheConstants.{DEMO}
 use Rattle.xarch_parts.specs.Archives.{GoesOn, TooLong, free_in}
 use Rattle.xarch_parts.specs.Inputs.{at_most}
 use Rattle.xarch_parts.specs.Outcome.{Outcome, and_then}
-use Rattle.xarch_meanings.specs.Stats.{counts_text}
+use Rattle.xarch_parts.specs.Counts.{counts_text}
+use Rattle.xarch_meanings.specs.Meaning.{Meaning, new_archive, plain, stores}
+use Rattle.xarch_meanings.specs.Over.{HasFile}
 
 -- the keyed tree of a document of the generator
 abbrev pub sample_tree : ℕ → ℕ → PlainKeyed
@@ -61,3 +63,15 @@ MakesOrNone files name seed count r = Makes files name seed count r ⊎ TooLong 
 
 abbrev pub DemoIs : Files → ℕ → ℕ → List ℕ → Result Outcome Refusal → Type 0
 DemoIs files seed count name r = GoesOn (demo_input files count name) (λ _. MakesOrNone files name seed count) r
+
+-- ---- all that is said of it
+
+-- It should succeed where there are not too many documents, the archive's name is free, and the documents have a file. Its words alone refuse too many. A new
+-- archive holds the company rules and the generated documents, whose notes are empty.
+abbrev pub demo_meaning : ℕ → ℕ → List ℕ → Meaning
+demo_meaning seed count name = record (plain (stores (new_archive name)) (λ files. DemoIs files seed count name)) {
+  Silent = ⊥;
+  Should = λ files. (demo_input files count name ≡ Ok tt) × HasFile (unnoted company_rules (samples seed count));
+  ByWords = λ ended. DEMO < count → ended ≡ Some (refused (limit demo DEMO));
+  Begins = λ files h. h ≡ unnoted company_rules (samples seed count);
+}

@@ -4,8 +4,10 @@ use Rattle.xa_outside.specs.Folder.{Files}
 use Rattle.noted_file.specs.Contents.{Contents}
 use Rattle.archive_text.specs.Export.{ExportOf}
 use Rattle.xarch_words.specs.Refusal.{Refusal}
-use Rattle.xarch_parts.specs.Archives.{Opens}
 use Rattle.xarch_parts.specs.Outcome.{Outcome}
+use Rattle.xarch_meanings.specs.Stats.{stats_input}
+use Rattle.xarch_meanings.specs.Meaning.{Meaning, on_archive, only_reads}
+use Rattle.xarch_meanings.specs.Over.{DamagedOrSound}
 
 -- the text of the archive that holds this is written
 pub record ExportsFrom (files : Files) (c : Contents) (r : Result Outcome Refusal) : Type 0 where
@@ -13,5 +15,7 @@ pub record ExportsFrom (files : Files) (c : Contents) (r : Result Outcome Refusa
   pub of : ExportOf c text
   pub is : r ≡ Ok (record { files = files; output = text })
 
-abbrev pub ExportIs : Files → List ℕ → Result Outcome Refusal → Type 0
-ExportIs files archive r = Opens files archive (ExportsFrom files) r
+-- ---- all that is said of it
+
+abbrev pub export_meaning : List ℕ → Meaning
+export_meaning archive = on_archive only_reads archive (λ files. stats_input files archive) (λ files. DamagedOrSound files archive) ExportsFrom

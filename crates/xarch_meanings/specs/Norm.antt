@@ -1,5 +1,5 @@
 -- What `norm` does: it writes a document in key order.
-use Rattle.std.specs.Prelude.{ℕ, List, Result, Ok}
+use Rattle.std.specs.Prelude.{ℕ, List, Result, Ok, ◌+◌}
 use Rattle.xa_outside.specs.Folder.{Files}
 use Rattle.jsonml_tree.specs.Data.{PlainTree}
 use Rattle.key_spec.specs.Data.{PlainRule}
@@ -9,6 +9,7 @@ use Rattle.xarch_parts.specs.Inputs.{file_of, length_in, read_in}
 use Rattle.keyed_print.specs.KeyedText.{keyed_text}
 use Rattle.xarch_parts.specs.Outcome.{Outcome, and_then}
 use Rattle.xarch_parts.specs.Readings.{rules_of, document_of, keyed_of}
+use Rattle.xarch_meanings.specs.Meaning.{Meaning, computed, only_reads}
 
 -- The refusals stand in the order in which they are tried: the lengths of both files, then the specification, the
 -- document, and the keys.
@@ -36,3 +37,8 @@ norm_of_tree files rules t = and_then (keyed_of rules t) (λ k. Ok (record { fil
 
 abbrev pub norm_from : Files → List PlainRule → List ℕ → Result Outcome Refusal
 norm_from files rules bytes = and_then (document_of bytes) (λ t. norm_of_tree files rules t)
+
+-- ---- all that is said of it
+
+abbrev pub norm_meaning : List ℕ → List ℕ → Meaning
+norm_meaning spec doc = record (computed only_reads (λ files. norm_of files spec doc)) { most = λ told. SPECIFICATION + DOCUMENT }

@@ -8,11 +8,7 @@ use Rattle.xarch_words.specs.Refusal.{PlainFault, folder_fault}
 use Rattle.xarch_parts.specs.Allowed.{MayEndLate}
 use Rattle.xarch_parts.specs.Ends.{IsCaused}
 use Rattle.xarch_parts.specs.Folders.{Keeps}
-use Rattle.xarch_meanings.specs.ByWords.{ByWords}
-use Rattle.xarch_meanings.specs.OnePass.{GoesOnce}
-use Rattle.xarch_meanings.specs.Plausible.{MayBe, MayComeLate}
-use Rattle.xarch_meanings.specs.Ran.{CountsAsSaid, GainsBy, made_name}
-use Rattle.xarch_meanings.specs.ReadsBack.{ReadsLittle}
+use Rattle.xarch_meanings.specs.Meanings.{ByWords, CountsAsSaid, GainsBy, GoesOnce, MayBe, MayComeLate, ReadsLittle, made_name}
 
 -- The command was done to the folder, which was `s` before and is `t` now, and to an output that had taken `old` and has taken `new`, and whose count of
 -- faults was `before` and is `now`. It ended without a fault, or by this one.

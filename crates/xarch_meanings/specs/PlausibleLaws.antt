@@ -7,7 +7,7 @@ use Rattle.content_log.specs.Text.{log_text}
 use Rattle.key_rules.specs.UserPaths.{user_path}
 use Rattle.keyed_tree.specs.Data.{PlainLabel, PlainKeyed}
 use Rattle.archive_tree.specs.Stands.{version_of}
-use Rattle.xarch_words.specs.Commands.{PlainCommand, norm, init, add, rekey, get, history, log, check, stats, versions, export, import, cut, join, table, tablekeys, batch, demo}
+use Rattle.xarch_words.specs.Commands.{PlainCommand, get, log, versions}
 use Rattle.xarch_words.specs.Refusal.{Refusal, bad_path, damaged, no_version, not_frontier}
 use Rattle.keyed_print.specs.KeyedText.{keyed_text}
 use Rattle.noted_file.specs.Contents.{Contents}
@@ -17,7 +17,8 @@ use Rattle.xarch_parts.specs.Readings.{refused_as}
 use Rattle.xarch_meanings.specs.History.{labels_of}
 use Rattle.xarch_meanings.specs.Log.{ending_at_frontier, frontier_of}
 use Rattle.xarch_meanings.specs.Versions.{versions_text}
-use Rattle.xarch_meanings.specs.Plausible.{IsLate, MayBe, MayComeLate, MayStep, step_behind}
+use Rattle.xarch_meanings.specs.Meanings.{MayBe, MayComeLate}
+use Rattle.xarch_meanings.specs.Plausible.{IsLate, MayStep, step_behind}
 
 -- nothing was written before it
 pub behind-none : (files : Files) (r : Result Outcome Refusal) → step_behind files [] r ≡ step_from files r
@@ -31,37 +32,14 @@ plain-step files c s m early = elim m.behind [
   | inr late ↦ absurd (early late)
 ]
 
--- only a `get`, a `log` and a `versions` are refused late
-pub late-three : (files : Files) (command : PlainCommand) (q : Refusal) (P : Type 0) → MayComeLate files (Some command) q → ((name : List ℕ) (i : ℕ) → command ≡ get name i → q ≡ damaged name → P)
-    → ((name path : List ℕ) → command ≡ log name path → q ≡ damaged name → P) → ((name : List ℕ) → command ≡ versions name → q ≡ damaged name → P) → P
-late-three files (norm spec doc) q P late h g l = absurd late
-late-three files (init name spec) q P late h g l = absurd late
-late-three files (add name doc note) q P late h g l = absurd late
-late-three files (rekey name spec) q P late h g l = absurd late
-late-three files (get name i) q P late h g l = h name i refl late.0
-late-three files (history name path) q P late h g l = absurd late
-late-three files (log name path) q P late h g l = g name path refl late.0
-late-three files (check name) q P late h g l = absurd late
-late-three files (stats name) q P late h g l = absurd late
-late-three files (versions name) q P late h g l = l name refl late.0
-late-three files (export name) q P late h g l = absurd late
-late-three files (import text new) q P late h g l = absurd late
-late-three files (cut name new i j) q P late h g l = absurd late
-late-three files (join one two new) q P late h g l = absurd late
-late-three files (table csv tag keys doc) q P late h g l = absurd late
-late-three files (tablekeys tag keys spec) q P late h g l = absurd late
-late-three files batch q P late h g l = absurd late
-late-three files (demo seed count name) q P late h g l = absurd late
-
 no_text : (files : Files) (vs : List PlainKeyed) (i : ℕ) (name : List ℕ) (o : Option PlainKeyed)
     → ◌≡◌ {A = Result Outcome Refusal} (Err (damaged name)) (and_then (or_refuse o (no_version i (length vs))) (λ k. Ok (record { files = files; output = keyed_text k }))) → ⊥
 no_text files vs i name None e = cc
 no_text files vs i name (Some k) e = cc
 
--- and never over a sound archive
+-- a refusal never comes late over a sound archive
 pub late-unsound : (files : Files) (name : List ℕ) (i : ℕ) (c : Contents) (r : Result Outcome Refusal) → ArchiveIs files name c → MayBe files (get name i) r
     → ¬ IsLate files (Some (get name i)) r
-unfolding MayBe
 late-unsound files name i c (Ok o) a m late = late
 late-unsound files name i c (Err q) a m late = no_text files c.versions i name (version_of c.versions i) (ap (λ s. Err s) (sym late.0) ∙ m.sound c a)
 
@@ -85,7 +63,6 @@ undamaged rules path name q e is = undamaged-path rules name (user_path rules pa
 
 pub late-unlogged : (files : Files) (name path : List ℕ) (c : Contents) (r : Result Outcome Refusal) → ArchiveIs files name c → MayBe files (log name path) r
     → ¬ IsLate files (Some (log name path)) r
-unfolding MayBe
 late-unlogged files name path c (Ok o) a m late = late
 late-unlogged files name path c (Err q) a m late = no_damage files c.versions name (frontier_of c.rules path) (λ r e. undamaged c.rules path name r e) (ap (λ s. Err s) (sym late.0) ∙ m.sound c a)
 
@@ -94,7 +71,6 @@ no_list q o e = cc
 
 pub late-unlisted : (files : Files) (name : List ℕ) (c : Contents) (r : Result Outcome Refusal) → ArchiveIs files name c → MayBe files (versions name) r
     → ¬ IsLate files (Some (versions name)) r
-unfolding MayBe
 late-unlisted files name c (Ok o) a m late = late
 late-unlisted files name c (Err q) a m late = no_list q (record { files = files; output = versions_text c.notes }) (m.sound c a)
 

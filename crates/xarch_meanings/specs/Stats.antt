@@ -1,5 +1,5 @@
 -- What `stats` does: it writes how much an archive holds.
-use Rattle.std.specs.Prelude.{◌≡◌, ℕ, ◌+◌, List, ◌++◌, length, codes, decimal, Result, Ok}
+use Rattle.std.specs.Prelude.{◌≡◌, ℕ, ◌+◌, List, length, Result, Ok}
 use Rattle.xa_outside.specs.Folder.{Files}
 use Rattle.key_spec.specs.Data.{PlainRule}
 use Rattle.archive_tree.specs.Data.{PlainArchive}
@@ -8,24 +8,12 @@ use Rattle.archive_stats.specs.Counts.{PlainCounts, counts}
 use Rattle.version_notes.specs.Notes.{notes_part}
 use Rattle.noted_file.specs.Contents.{Contents}
 use Rattle.xarch_words.specs.Refusal.{Refusal}
-use Rattle.xarch_parts.specs.Archives.{Opens}
 use Rattle.xarch_parts.specs.Outcome.{Outcome}
-
--- a number behind its name, and a line feed
-abbrev pub count_line : List ℕ → ℕ → List ℕ
-count_line name n = name ++ decimal n ++ codes "\n"
-
--- what was counted of the versions and nodes
-unfoldable pub nodes_text : PlainCounts → List ℕ
-nodes_text c = count_line (codes "versions ") c.versions ++ count_line (codes "inner ") c.inner ++ count_line (codes "leaves ") c.leaves ++ count_line (codes "alternatives ") c.alternatives
-
--- and of their timestamps and bytes
-unfoldable pub sizes_text : PlainCounts → List ℕ
-sizes_text c = count_line (codes "stamps ") c.stamps ++ count_line (codes "largest ") c.largest ++ count_line (codes "bytes ") c.bytes
-
--- the seven lines
-unfoldable pub counts_text : PlainCounts → List ℕ
-counts_text c = nodes_text c ++ sizes_text c
+use Rattle.version_notes.specs.declared.parts.Parts.{Parts}
+use Rattle.xarch_parts.specs.Counts.{counts_text}
+use Rattle.xarch_parts.specs.Inputs.{read_in}
+use Rattle.xarch_parts.specs.Readings.{parts_of}
+use Rattle.xarch_meanings.specs.Meaning.{Meaning, printing}
 
 -- the same counts of a file of so many bytes
 abbrev pub of_size : ℕ → PlainCounts → PlainCounts
@@ -41,5 +29,11 @@ pub record CountsFrom (files : Files) (c : Contents) (r : Result Outcome Refusal
   pub of : ArchiveOf c.versions archive
   pub is : r ≡ Ok (record { files = files; output = counts_text (noted_counts c.rules archive c.notes) })
 
-abbrev pub StatsIs : Files → List ℕ → Result Outcome Refusal → Type 0
-StatsIs files archive r = Opens files archive (CountsFrom files) r
+-- ---- all that is said of it
+
+-- The parts of the archive, or the first refusal: the archive is there, and has parts.
+abbrev pub stats_input : Files → List ℕ → Result Parts Refusal
+stats_input files name = read_in files name (parts_of name)
+
+abbrev pub stats_meaning : List ℕ → Meaning
+stats_meaning archive = printing archive (λ files. stats_input files archive) CountsFrom

@@ -1,5 +1,5 @@
 -- What `table` and `tablekeys` do: they make the document of a table, and the specification for it.
-use Rattle.std.specs.Prelude.{ℕ, List, [], length, nat_le, Result, Ok, Err, if◌then◌else◌}
+use Rattle.std.specs.Prelude.{ℕ, List, [], length, nat_le, Result, Ok, Err, if◌then◌else◌, ◌≡◌, ◌⊎◌, ◌<◌, Some}
 use Rattle.std.specs.FinMap as map
 use Rattle.std.specs.List.{list_all}
 use Rattle.xa_outside.specs.Folder.{Files}
@@ -12,12 +12,13 @@ use Rattle.csv_tables.specs.Documents.{table_tree}
 use Rattle.csv_tables.specs.Keys.{table_rules}
 use Rattle.csv_tables.specs.Records.{has_field, table_of}
 use Rattle.xarch_words.specs.Commands.{key_names}
-use Rattle.xarch_words.specs.Refusal.{document, specification, Refusal, bad_csv, limit}
+use Rattle.xarch_words.specs.Refusal.{document, specification, Refusal, bad_csv, limit, memory, refused}
 use Rattle.xarch_words.specs.declared.limits.TheConstants.{DOCUMENT, SPECIFICATION}
 use Rattle.xarch_parts.specs.Archives.{free_in}
 use Rattle.xarch_parts.specs.Inputs.{length_in, read_in}
 use Rattle.xarch_parts.specs.Outcome.{Outcome, and_then}
 use Rattle.xarch_parts.specs.Readings.{keyed_of, refused_as}
+use Rattle.xarch_meanings.specs.Meaning.{Meaning, computed, new_file, stores}
 
 abbrev pub table_refusal : PlainBadRow → Refusal
 table_refusal f = bad_csv f.row f.why
@@ -69,3 +70,14 @@ keys_tabled files tag keys spec =
     and_then (short_rules tag (key_names keys)) (λ rules.
     and_then (free_in files spec) (λ _.
     Ok (kept_as files spec (canonical rules))))
+
+-- ---- all that is said of them
+
+abbrev pub table_meaning : List ℕ → List ℕ → List ℕ → List ℕ → Meaning
+table_meaning csv tag keys doc = record (computed (stores (new_file doc)) (λ files. tabled files csv tag keys doc)) { most = λ told. DOCUMENT }
+
+-- The words of `tablekeys` alone refuse keys whose text is too long, but a text takes memory to be spelled.
+abbrev pub tablekeys_meaning : List ℕ → List ℕ → List ℕ → Meaning
+tablekeys_meaning tag keys spec = record (computed (stores (new_file spec)) (λ files. keys_tabled files tag keys spec)) {
+  ByWords = λ ended. SPECIFICATION < length (canonical (table_rules tag (key_names keys))) → (ended ≡ Some (refused (limit specification SPECIFICATION))) ⊎ (ended ≡ Some memory);
+}

@@ -3,8 +3,11 @@ use Rattle.std.specs.Prelude.{◌≡◌, ℕ, ◌+◌, List, [], ◌∷◌, ◌+
 use Rattle.xa_outside.specs.Folder.{Files}
 use Rattle.noted_file.specs.Contents.{Contents}
 use Rattle.xarch_words.specs.Refusal.{Refusal}
-use Rattle.xarch_parts.specs.Archives.{Opens}
 use Rattle.xarch_parts.specs.Outcome.{Outcome}
+use Rattle.key_spec.specs.Data.{PlainRule}
+use Rattle.xarch_parts.specs.Inputs.{read_in}
+use Rattle.xarch_parts.specs.Readings.{front_in}
+use Rattle.xarch_meanings.specs.Meaning.{Meaning, printing_late}
 
 -- a note that is not empty, behind a blank
 abbrev pub note_text : List ℕ → List ℕ
@@ -32,5 +35,12 @@ listed files notes = Ok (record { files = files; output = versions_text notes })
 abbrev pub ListsFrom : Files → Contents → Result Outcome Refusal → Type 0
 ListsFrom files c r = r ≡ listed files c.notes
 
-abbrev pub VersionsIs : Files → List ℕ → Result Outcome Refusal → Type 0
-VersionsIs files archive r = Opens files archive (ListsFrom files) r
+-- ---- all that is said of it
+
+-- The rules and the number of versions of the archive, or the first refusal: the archive is there and has parts, and a header stands
+-- in front of it.
+abbrev pub versions_input : Files → List ℕ → Result (List PlainRule × ℕ) Refusal
+versions_input files name = read_in files name (front_in name)
+
+abbrev pub versions_meaning : List ℕ → Meaning
+versions_meaning archive = printing_late archive (λ files. versions_input files archive) ListsFrom

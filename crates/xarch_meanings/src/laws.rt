@@ -5,9 +5,9 @@ ghost use Rattle.archive_tree.specs.Data.{PlainArchive};
 ghost use Rattle.xarch_words.specs.Commands.{PlainCommand};
 ghost use Rattle.xarch_words.specs.Refusal.{Refusal};
 ghost use Rattle.xarch_parts.specs.Outcome.{Outcome, Step};
-ghost use Rattle.xarch_meanings.specs.Plausible.{MayBe, MayDo, Plausible};
+ghost use Rattle.xarch_meanings.specs.Plausible.{Plausible};
+ghost use Rattle.xarch_meanings.specs.Meanings.{MayBe, MayDo, ShouldSucceed};
 ghost use Rattle.xarch_meanings.specs.Step.{Defines, StepIs, alone, single_of};
-ghost use Rattle.xarch_meanings.specs.Succeeds.{ShouldSucceed};
 ghost use Rattle.xarch_meanings.specs.Texts.{TellsArchives, TellsTexts, TellsVersions};
 
 use archive_rekey::versions_have_one_rekeying;

@@ -1,4 +1,3 @@
-pub mod MergedLemmas
 pub mod Pushing
 mod FrontLemmas
 pub mod NoteLaws

@@ -9,5 +9,6 @@ pub mod FolderLaws
 pub mod InputLaws
 pub mod CoreLaws
 pub mod Noted
+pub mod Counts
 pub mod Allowed
 pub mod AllowedLaws

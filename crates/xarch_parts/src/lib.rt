@@ -3,20 +3,20 @@
 #![tactic(auto)]
 
 mod archives;
+mod counts;
 mod front;
 mod fronts;
 mod inputs;
-mod merged;
 mod names;
 mod notes;
 mod put;
 mod readings;
 
 pub use archives::{begin, check_free, commit, draft, file_from, store};
+pub use counts::{write_count, write_counts};
 pub use front::Front;
 pub use fronts::{read_front, read_parts};
 pub use inputs::{at_most, length_of, limited_length, read_whole};
-pub use merged::file_of_versions;
 pub use names::{damaged, notes_fault};
 pub use notes::{push_notes, store_noted};
 pub use put::{write_bytes, write_keyed};

@@ -19,7 +19,7 @@ use Rattle.xarch_parts.specs.Inputs as inputs
 use Rattle.xarch_parts.specs.Outcome.{Outcome, and_then, or_refuse}
 use Rattle.xarch_parts.specs.Readings.{parts_of}
 use Rattle.xarch_meanings.specs.Check.{IsFound, check_text}
-use Rattle.xarch_meanings.specs.Plausible.{MayBe}
+use Rattle.xarch_meanings.specs.Meanings.{MayBe}
 
 not_parted : (o : Option Parts) (name : List ℕ) (q : Refusal) → or_refuse o (damaged name) ≡ Err q → (o ≡ None) × (q ≡ damaged name)
 not_parted None name q e = let same : damaged name ≡ q = cc in (refl, sym same)
@@ -39,7 +39,6 @@ module _ (has_parts : (c : Contents) (bytes : List ℕ) (full : FullAs c bytes) 
 
   -- the archive is not there, or has no parts
   pub may_refuse_early : (q : Refusal) → read_in files name (parts_of name) ≡ Err q → MayBe files (check name) (Err q)
-  unfolding MayBe
   may_refuse_early q e = early (inputs.file_of files name) q e
 
   module _ (parts : Parts) (p : PartsAre files name parts) where
@@ -58,7 +57,6 @@ module _ (has_parts : (c : Contents) (bytes : List ℕ) (full : FullAs c bytes) 
 
     -- it has no sound archive before its notes
     pub may_refuse_core : (q : Refusal) → q ≡ damaged name → ¬ Sound (take parts.core p.bytes) → MayBe files (check name) (Err q)
-    unfolding MayBe
     may_refuse_core q named h = judged (Err q) (inr (record { unsound = λ f. h (record { rules = f.contents.rules; versions = f.contents.versions; is = core_sound f }); is = ap (λ (z : Refusal). Err z) named }))
 
     whole : file_of files name ≡ p.bytes
@@ -68,7 +66,6 @@ module _ (has_parts : (c : Contents) (bytes : List ℕ) (full : FullAs c bytes) 
       -- its notes are as many as its versions
       pub may_tell : ((c : Contents) (bytes name : List ℕ) (parts : Parts) → parts_in bytes ≡ Some parts → SoundAs c.rules c.versions (take parts.core bytes) → notes_from (at_first name parts (length c.versions)) bytes ≡ Some c.notes → FullAs c bytes)
           → IsSome (notes_from (at_first name parts n) (file_of files name)) → MayBe files (check name) (Ok (record { files = files; output = check_text n }))
-      unfolding MayBe
       may_tell full some =
           let here : IsSome (notes_from (at_first name parts (length s.versions)) p.bytes) = subst (λ k. IsSome (notes_from (at_first name parts k) p.bytes)) (sym count) (subst (λ b. IsSome (notes_from (at_first name parts n) b)) whole some) in
           let notes = some_is (notes_from (at_first name parts (length s.versions)) p.bytes) here in
@@ -82,7 +79,6 @@ module _ (has_parts : (c : Contents) (bytes : List ℕ) (full : FullAs c bytes) 
       -- or they are not
       pub may_refuse_notes : ((rules : List PlainRule) (vs : List PlainKeyed) (bytes name : List ℕ) (parts : Parts) → parts_in bytes ≡ Some parts → SoundAs rules vs (take parts.core bytes) → notes_from (at_first name parts (length vs)) bytes ≡ None → ¬ Full bytes)
           → (q : Refusal) → q ≡ damaged name → notes_from (at_first name parts n) (file_of files name) ≡ None → MayBe files (check name) (Err q)
-      unfolding MayBe
       may_refuse_notes damage q named e =
           let here : notes_from (at_first name parts (length s.versions)) p.bytes ≡ None = subst (λ k. notes_from (at_first name parts k) p.bytes ≡ None) (sym count) (subst (λ b. notes_from (at_first name parts n) b ≡ None) whole e) in
           judged (Err q) (inr (record { unsound = damage s.rules s.versions p.bytes name parts p.are s.is here; is = ap (λ (z : Refusal). Err z) named }))

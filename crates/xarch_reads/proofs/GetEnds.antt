@@ -39,10 +39,9 @@ use Rattle.xarch_parts.specs.FolderLaws.{caused-read, caused-then, keeps-read, r
 use Rattle.xarch_parts.specs.Folders.{Counts, Keeps, ReadsOnly}
 use Rattle.xarch_parts.specs.Inputs.{read_in}
 use Rattle.xarch_parts.specs.Outcome.{Outcome, and_then, or_refuse}
-use Rattle.xarch_meanings.specs.Get.{version_text}
-use Rattle.xarch_meanings.specs.Plausible.{MayWrite, MayBe, MayComeLate, get_input, is_version}
-use Rattle.xarch_meanings.specs.Ran.{GainsBy}
-use Rattle.xarch_meanings.specs.ReadsBack.{ReadsLittle, version_bytes}
+use Rattle.xarch_meanings.specs.Get.{get_input, is_version, version_bytes, version_text}
+use Rattle.xarch_meanings.specs.Over.{MayWrite}
+use Rattle.xarch_meanings.specs.Meanings.{GainsBy, MayBe, MayComeLate, ReadsLittle}
 use Rattle.xarch_meanings.specs.Texts.{TellsTexts}
 use Rattle.xarch_reads.specs.Written.{IsWrittenAs, Writes, WrittenState, written_state}
 use Rattle.xarch_reads.proofs.LateEnds.{all-of, front-of, no_folder, no_memory, no_out, outside}
@@ -98,7 +97,6 @@ module _ (counted : (rules : List PlainRule) (vs : List PlainKeyed) (bytes : Lis
 
   -- no header stands in front
   no_header : fixed bytes ≡ None → MayBe files (get name i) (Err (damaged name))
-  unfolding MayBe
   no_header e = record {
     whatever = subst (λ x. GoesOn x (λ _. MayWrite files name) (Err (damaged name))) (sym (input-is None e)) refl;
     sound = λ c a. (let wrong : Some (length c.versions) ≡ None = sym (counted c.rules c.versions bytes (own-sound c a).file) ∙ e in absurd cc);
@@ -107,7 +105,6 @@ module _ (counted : (rules : List PlainRule) (vs : List PlainKeyed) (bytes : Lis
   module _ (n : ℕ) (e : fixed bytes ≡ Some n) where
     -- there is no such version
     none-counted : is_counted n i ≡ false → ¬ told.is_version i n → MayBe files (get name i) (Err (no_version i n))
-    unfolding MayBe
     none-counted uncounted out =
         let input : get_input files name i ≡ Err (no_version i n) = input-is (Some n) e ∙ ap (λ b. and_then (cond b (Ok tt) (Err (no_version i n))) (λ _. Ok bytes)) uncounted in
         record {
@@ -136,7 +133,6 @@ module _ (counted : (rules : List PlainRule) (vs : List PlainKeyed) (bytes : Lis
       -- something is written, which is the version of a sound archive
       may-write : (output : List ℕ) → ((rules : List PlainRule) (vs : List PlainKeyed) (k : PlainKeyed) → SoundAs rules vs bytes → version_of vs i ≡ Some k → output ≡ keyed_text k)
           → MayBe files (get name i) (Ok (record { files = files; output = output }))
-      unfolding MayBe
       may-write output h =
           let r : Result Outcome Refusal = Ok (record { files = files; output = output }) in
           record {
@@ -146,7 +142,6 @@ module _ (counted : (rules : List PlainRule) (vs : List PlainKeyed) (bytes : Lis
 
       -- the archive is damaged
       may-refuse : ((rules : List PlainRule) (vs : List PlainKeyed) → ¬ SoundAs rules vs bytes) → MayBe files (get name i) (Err (damaged name))
-      unfolding MayBe
       may-refuse none = record {
         whatever = subst (λ x. GoesOn x (λ _. MayWrite files name) (Err (damaged name))) (sym counted-input) (inl refl);
         sound = λ c a. absurd (none c.rules c.versions (own-sound c a));
@@ -350,7 +345,6 @@ module _ {S K : Type 0} (files : S → Option Files) (draft : S → Option (List
 
 pub absent-parts : (has_parts : (c : Contents) (bytes : List ℕ) (full : FullAs c bytes) → parts_in bytes ≡ Some (parts_behind full.core c.notes))
     → (files : Files) (name : List ℕ) (i : ℕ) (v : PlainFault) → IsDefined (read_in files name (parts_of name)) v → (q : Refusal) → v ≡ refused q → MayBe files (get name i) (Err q)
-unfolding MayBe
 absent-parts has_parts files name i v d q e = record {
   whatever = subst (λ x. GoesOn x (λ _. MayWrite files name) (Err q)) (sym (no-input files name i q refuses)) refl;
   sound = λ c a. absurd (no-parts has_parts files name c a q refuses);

@@ -27,10 +27,8 @@ use Rattle.xarch_parts.specs.Ends.{IsInside, IsOfFolder}
 use Rattle.xarch_parts.specs.FolderLaws.{reads-then}
 use Rattle.xarch_parts.specs.Folders.{ReadsOnly}
 use Rattle.xarch_meanings.specs.ReadLaws.{reads-once}
-use Rattle.xarch_meanings.specs.History.{labels_of, numbers_text}
-use Rattle.xarch_meanings.specs.OnePass.{front_size}
-use Rattle.xarch_meanings.specs.Plausible.{MayBe, history_input}
-use Rattle.xarch_meanings.specs.ReadsBack.{path_bytes}
+use Rattle.xarch_meanings.specs.History.{front_size, history_input, labels_of, numbers_text, path_bytes}
+use Rattle.xarch_meanings.specs.Meanings.{MayBe}
 use Rattle.xarch_reads.specs.Searched.{IsShownAs}
 use Rattle.xarch_reads.proofs.PathEnds.{path-damaged, path-given, path-refused, path-written}
 
@@ -77,19 +75,16 @@ module _ (has_parts : (c : Contents) (bytes : List ℕ) (full : FullAs c bytes) 
     (files : Files) (name path : List ℕ) where
   -- a refusal before the records are looked at
   pub may_refuse_early : (q : Refusal) → history_input files name path ≡ Err q → MayBe files (history name path) (Err q)
-  unfolding MayBe
   may_refuse_early q e = path-refused files name (λ rules. labels_of rules path) told_text has_parts fronted q e
 
   module _ (h : List PlainRule × ℕ) (labels : List PlainLabel) (input : history_input files name path ≡ Ok (h, labels)) where
     -- the numbers are written
     pub may_write : (output : List ℕ) → ((c : Contents) → ArchiveIs files name c → output ≡ numbers_text (hist c.versions labels))
         → MayBe files (history name path) (Ok (record { files = files; output = output }))
-    unfolding MayBe
     may_write output told = path-written files name (λ rules. labels_of rules path) told_text has_parts fronted h labels input output told
 
     -- the archive is damaged
     pub may_refuse : (q : Refusal) → q ≡ damaged name → ((c : Contents) → ¬ ArchiveIs files name c) → MayBe files (history name path) (Err q)
-    unfolding MayBe
     may_refuse q e none = path-damaged files name (λ rules. labels_of rules path) told_text has_parts fronted h labels input q e none
 
     -- the labels that the path spells under the rules of a sound archive

@@ -34,9 +34,9 @@ use Rattle.xarch_parts.specs.Folders.{Counts, Keeps, ReadsOnly}
 use Rattle.xarch_parts.specs.Noted.{AreWithin, notes_bytes}
 use Rattle.xarch_meanings.specs.ReadLaws.{reads-once}
 use Rattle.xarch_parts.specs.Outcome.{Outcome}
-use Rattle.xarch_meanings.specs.Plausible.{MayBe, MayComeLate, MayWrite, versions_input}
-use Rattle.xarch_meanings.specs.Ran.{GainsBy}
-use Rattle.xarch_meanings.specs.Versions.{versions_text}
+use Rattle.xarch_meanings.specs.Meanings.{GainsBy, MayBe, MayComeLate}
+use Rattle.xarch_meanings.specs.Over.{MayWrite}
+use Rattle.xarch_meanings.specs.Versions.{versions_input, versions_text}
 use Rattle.xarch_reads.specs.Listed.{ListEnds, Lists}
 use Rattle.xarch_reads.specs.Written.{WrittenState, written_state}
 
@@ -138,7 +138,6 @@ module _ (has_parts : (c : Contents) (bytes : List ℕ) (full : FullAs c bytes) 
 
   -- a refusal before a note is read
   pub may_refuse_early : (q : Refusal) → versions_input files name ≡ Err q → MayBe files (versions name) (Err q)
-  unfolding MayBe
   may_refuse_early q e = record {
     whatever = subst (λ x. GoesOn x (λ _. MayWrite files name) (Err q)) (sym e) refl;
     sound = λ c a. absurd (clash q (c.rules, length c.versions) (sym e ∙ front-sound has_parts files name c a fronted));
@@ -163,7 +162,6 @@ module _ (has_parts : (c : Contents) (bytes : List ℕ) (full : FullAs c bytes) 
 
     -- something is written, and the lines of the notes of an archive
     may-write : (output : List ℕ) → ((notes : List (List ℕ)) → left ≡ Some notes → output ≡ versions_text notes) → MayBe files (versions name) (Ok (record { files = files; output = output }))
-    unfolding MayBe
     may-write output told =
         let r : Result Outcome Refusal = Ok (record { files = files; output = output }) in
         record {
@@ -179,7 +177,6 @@ module _ (has_parts : (c : Contents) (bytes : List ℕ) (full : FullAs c bytes) 
 
     -- the archive is damaged
     may-refuse : left ≡ None → MayBe files (versions name) (Err (damaged name))
-    unfolding MayBe
     may-refuse e = record {
       whatever = subst (λ x. GoesOn x (λ _. MayWrite files name) (Err (damaged name))) (sym input) (inl refl);
       sound = λ c a. absurd (no-notes c.notes e (own-notes c a));

@@ -39,13 +39,10 @@ use Rattle.xarch_parts.specs.FolderLaws.{caused-read, caused-then, keeps-read, r
 use Rattle.xarch_parts.specs.Folders.{Counts, Keeps, ReadsOnly}
 use Rattle.xarch_parts.specs.Outcome.{Outcome, and_then}
 use Rattle.xarch_meanings.specs.FrontLaws.{front-told, header-is}
-use Rattle.xarch_meanings.specs.History.{labels_of}
-use Rattle.xarch_meanings.specs.Log.{ending_at_frontier, frontier_of}
-use Rattle.xarch_meanings.specs.OnePass.{front_size}
-use Rattle.xarch_meanings.specs.Plausible.{MayBe, MayComeLate, history_input, log_input}
-use Rattle.xarch_meanings.specs.Ran.{GainsBy}
+use Rattle.xarch_meanings.specs.History.{front_size, history_input, labels_of}
+use Rattle.xarch_meanings.specs.Log.{ending_at_frontier, frontier_of, leaf_path_bytes, log_input}
+use Rattle.xarch_meanings.specs.Meanings.{GainsBy, MayBe, MayComeLate}
 use Rattle.xarch_meanings.specs.ReadLaws.{reads-once}
-use Rattle.xarch_meanings.specs.ReadsBack.{leaf_path_bytes}
 use Rattle.xarch_reads.specs.Logged.{IsLoggedAs, Logs}
 use Rattle.xarch_reads.specs.Written.{WrittenState, written_state}
 use Rattle.xarch_reads.proofs.LateEnds.{all-of, front-of, no_folder, no_memory, no_out, outside}
@@ -122,7 +119,6 @@ module _ (has_parts : (c : Contents) (bytes : List ℕ) (full : FullAs c bytes) 
     (fronted : (rules : List PlainRule) (vs : List PlainKeyed) (bytes : List ℕ) → closed (canonical rules) ≡ Ok rules → FileOf rules vs bytes → header bytes ≡ Some (rules, length vs)) where
   -- a refusal before the records are looked at
   pub log-refused : (files : Files) (name path : List ℕ) (q : Refusal) → log_input files name path ≡ Err q → MayBe files (log name path) (Err q)
-  unfolding MayBe
   log-refused files name path q e = path-refused files name (λ rules. frontier_of rules path) log_text has_parts fronted q e
 
   -- the labels are those that the path spells under the rules of the archive
@@ -161,14 +157,12 @@ module _ (has_parts : (c : Contents) (bytes : List ℕ) (full : FullAs c bytes) 
 
       -- something is written, which is the log of a sound archive
       may-write : (output : List ℕ) → ((rules : List PlainRule) (vs : List PlainKeyed) → SoundAs rules vs front.core → output ≡ log_text vs labels) → Allowed (Ok (record { files = files; output = output }))
-      unfolding MayBe
       may-write output is =
           path-written files name (λ rules. frontier_of rules path) log_text has_parts fronted (h.rules, h.versions) labels input output
           (λ c a. is c.rules c.versions (core-sound has_parts files name c a h.length front.core front.of))
 
       -- the archive is damaged
       may-refuse : ((rules : List PlainRule) (vs : List PlainKeyed) → ¬ SoundAs rules vs front.core) → Allowed (Err (damaged name))
-      unfolding MayBe
       may-refuse none =
           path-damaged files name (λ rules. frontier_of rules path) log_text has_parts fronted (h.rules, h.versions) labels input (damaged name) refl
           (λ c a. none c.rules c.versions (core-sound has_parts files name c a h.length front.core front.of))

@@ -16,7 +16,7 @@ use Rattle.xarch_parts.specs.CoreLaws.{front-sound}
 use Rattle.xarch_parts.specs.Inputs.{read_in}
 use Rattle.xarch_parts.specs.Outcome.{Outcome, and_then}
 use Rattle.xarch_parts.specs.Readings.{front_in}
-use Rattle.xarch_meanings.specs.Plausible.{MayOver, MayWrite}
+use Rattle.xarch_meanings.specs.Over.{MayOver, MayWrite}
 
 abbrev pub beside : List PlainRule × ℕ → Result (List PlainLabel) Refusal → Result ((List PlainRule × ℕ) × List PlainLabel) Refusal
 beside h x = and_then x (λ ls. Ok (h, ls))

@@ -20,15 +20,16 @@ use Rattle.xarch_parts.specs.CoreLaws.{core-front, core-sound, no-parts, of-part
 use Rattle.xarch_parts.specs.InputLaws.{length-is}
 use Rattle.xarch_parts.specs.Inputs.{file_length}
 use Rattle.xarch_parts.specs.Outcome.{Outcome}
-use Rattle.xarch_meanings.specs.Plausible.{MayWrite, MayBe, stats_input}
-use Rattle.xarch_meanings.specs.Stats.{counts_text, of_size}
+use Rattle.xarch_meanings.specs.Over.{MayWrite}
+use Rattle.xarch_meanings.specs.Meanings.{MayBe}
+use Rattle.xarch_meanings.specs.Stats.{of_size, stats_input}
+use Rattle.xarch_parts.specs.Counts.{counts_text}
 
 -- From what is known of all archives with notes: where their parts stand.
 module _ (has_parts : (c : Contents) (bytes : List ℕ) (full : FullAs c bytes) → parts_in bytes ≡ Some (parts_behind full.core c.notes))
     (files : Files) (name : List ℕ) where
   -- the archive is not there, or has no parts
   pub may_refuse_early : (q : Refusal) → stats_input files name ≡ Err q → MayBe files (stats name) (Err q)
-  unfolding MayBe
   may_refuse_early q e = record {
     whatever = subst (λ x. GoesOn x (λ _. MayWrite files name) (Err q)) (sym e) refl;
     sound = λ c a. absurd (no-parts has_parts files name c a q e);
@@ -54,7 +55,6 @@ module _ (has_parts : (c : Contents) (bytes : List ℕ) (full : FullAs c bytes) 
     pub may_count : (n : ℕ) (c : PlainCounts) → file_length files name ≡ Ok n
         → ((bytes : List ℕ) (rules : List PlainRule) (vs : List PlainKeyed) (a : PlainArchive) → front_of files name parts.core ≡ Some bytes → SoundAs rules vs bytes → ArchiveOf vs a → c ≡ counts rules a)
         → MayBe files (stats name) (Ok (record { files = files; output = counts_text (of_size n c) }))
-    unfolding MayBe
     may_count n c long h =
         let r : Result Outcome Refusal = Ok (record { files = files; output = counts_text (of_size n c) }) in
         record {
@@ -73,7 +73,6 @@ module _ (has_parts : (c : Contents) (bytes : List ℕ) (full : FullAs c bytes) 
 
     -- the archive is damaged
     pub may_refuse : ((bytes : List ℕ) (rules : List PlainRule) (vs : List PlainKeyed) → front_of files name parts.core ≡ Some bytes → ¬ SoundAs rules vs bytes) → MayBe files (stats name) (Err (damaged name))
-    unfolding MayBe
     may_refuse h = record {
       whatever = subst (λ x. GoesOn x (λ _. MayWrite files name) (Err (damaged name))) (sym input) (inl refl);
       sound = λ c a. absurd (h (take parts.core p.bytes) c.rules c.versions (core-front files name parts.core (take parts.core p.bytes) core) (core-sound has_parts files name c a parts.core (take parts.core p.bytes) core));

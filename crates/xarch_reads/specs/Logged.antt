@@ -17,8 +17,8 @@ use Rattle.xarch_words.specs.Refusal.{damaged, PlainFault, refused, folder_fault
 use Rattle.xarch_parts.specs.Allowed.{MayEndLate}
 use Rattle.xarch_parts.specs.Archives.{ArchiveIs, IsFrontOf}
 use Rattle.xarch_parts.specs.Ends.{IsOfCommand}
-use Rattle.xarch_meanings.specs.Plausible.{MayBe, MayComeLate, log_input}
-use Rattle.xarch_meanings.specs.Ran.{GainsBy}
+use Rattle.xarch_meanings.specs.Meanings.{GainsBy, MayBe, MayComeLate}
+use Rattle.xarch_meanings.specs.Log.{log_input}
 use Rattle.xarch_reads.specs.Written.{WrittenState}
 
 -- the fault of writing a log, as it is told of the archive of this name

@@ -13,9 +13,8 @@ use Rattle.xarch_words.specs.Refusal.{damaged, no_version, PlainFault, refused, 
 use Rattle.xarch_parts.specs.Allowed.{MayEndLate}
 use Rattle.xarch_parts.specs.Archives.{ArchiveIs, CoreIs}
 use Rattle.xarch_parts.specs.Ends.{IsOfCommand}
-use Rattle.xarch_meanings.specs.Plausible.{MayBe, MayComeLate}
-use Rattle.xarch_meanings.specs.Ran.{GainsBy}
-use Rattle.xarch_meanings.specs.ReadsBack.{version_bytes}
+use Rattle.xarch_meanings.specs.Meanings.{GainsBy, MayBe, MayComeLate}
+use Rattle.xarch_meanings.specs.Get.{version_bytes}
 
 -- the fault of writing a version, as it is told of the version of that number of the archive of this name
 abbrev pub IsWrittenAs : List ℕ → ℕ → GetFault → PlainFault → Type 0

@@ -12,9 +12,7 @@ ghost use Rattle.xarch_parts.specs.Archives.{ArchiveIs, IsFrontOf};
 ghost use Rattle.xarch_parts.specs.Ends.{IsInside, Matches, fault_of};
 ghost use Rattle.xarch_parts.specs.Folders.{ReadsOnly};
 ghost use Rattle.xarch_parts.specs.Inputs.{size_in};
-ghost use Rattle.xarch_meanings.specs.History.{labels_of};
-ghost use Rattle.xarch_meanings.specs.OnePass.{front_size};
-ghost use Rattle.xarch_meanings.specs.Plausible.{history_input};
+ghost use Rattle.xarch_meanings.specs.History.{front_size, history_input, labels_of};
 ghost use Rattle.xarch_reads.specs.Searched.{asked_view};
 
 use crate::fronts::front_of;

@@ -15,7 +15,7 @@ ghost use Rattle.xarch_parts.specs.Folders.{ReadsOnly};
 ghost use Rattle.xarch_parts.specs.Inputs.{size_in};
 ghost use Rattle.xarch_parts.specs.Noted.{notes_bytes};
 ghost use Rattle.xarch_meanings.specs.Check.{check_text};
-ghost use Rattle.xarch_meanings.specs.Plausible.{MayBe};
+ghost use Rattle.xarch_meanings.specs.Meanings.{MayBe};
 ghost use Rattle.xarch_meanings.specs.Performs.{Performs};
 
 use crate::fronts::parts_in;
@@ -24,8 +24,7 @@ use noted_file::{full_files_are_read_note_by_note, full_files_have_parts};
 use std::alloc::Global;
 use version_notes::{NoteReader, Parts, check_notes};
 use xa_outside::{Folder, Sink};
-use xarch_meanings::write_count;
-use xarch_parts::{damaged, notes_fault};
+use xarch_parts::{damaged, notes_fault, write_count};
 use xarch_words::Fault;
 
 /// Tells whether a file is a sound archive with its notes, and writes how many versions it has.

@@ -11,7 +11,7 @@ ghost use Rattle.xarch_parts.specs.Folders.{ReadsOnly};
 ghost use Rattle.xarch_parts.specs.Inputs.{read_in, size_in};
 ghost use Rattle.xarch_parts.specs.Noted.{AreWithin};
 ghost use Rattle.xarch_parts.specs.Readings.{front_in, parts_of};
-ghost use Rattle.xarch_meanings.specs.OnePass.{front_size};
+ghost use Rattle.xarch_meanings.specs.History.{front_size};
 
 use std::alloc::Global;
 use version_notes::Parts;

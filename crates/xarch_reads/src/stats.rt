@@ -9,16 +9,15 @@ ghost use Rattle.xarch_words.specs.View.{fault_view};
 ghost use Rattle.xarch_parts.specs.Ends.{fault_of};
 ghost use Rattle.xarch_parts.specs.Folders.{ReadsOnly};
 ghost use Rattle.xarch_parts.specs.Inputs.{size_in};
-ghost use Rattle.xarch_meanings.specs.Plausible.{MayBe};
+ghost use Rattle.xarch_meanings.specs.Meanings.{MayBe};
 ghost use Rattle.xarch_meanings.specs.Performs.{Performs};
-ghost use Rattle.xarch_meanings.specs.Stats.{counts_text};
+ghost use Rattle.xarch_parts.specs.Counts.{counts_text};
 
 use archive_stats::{Counts, StatsFault, stats};
 use noted_file::full_files_have_parts;
 use std::alloc::Global;
 use xa_outside::{Folder, Sink};
-use xarch_meanings::write_counts;
-use xarch_parts::{damaged, length_of, read_parts};
+use xarch_parts::{damaged, length_of, read_parts, write_counts};
 use xarch_words::Fault;
 
 /// Writes how much an archive holds.

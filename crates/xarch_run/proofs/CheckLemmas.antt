@@ -9,7 +9,6 @@ use Rattle.xarch_words.specs.Refusal.{Refusal, no_file}
 use Rattle.xarch_parts.specs.Archives.{GoesOn}
 use Rattle.xarch_parts.specs.Outcome.{Outcome, Step, or_refuse, step_from}
 use Rattle.xarch_meanings.specs.Check.{IsFound, checked}
-use Rattle.xarch_meanings.specs.Plausible.{MayBe}
 use Rattle.xarch_meanings.specs.PlausibleLaws.{no-late, plain-step}
 use Rattle.xarch_run.specs.Calls.{CommandMay}
 use Rattle.xarch_run.specs.Held.{FileIs, Held, Holds, TellsSoundness}
@@ -60,13 +59,11 @@ module _ (files : Files) (name : List ℕ) where
 
     -- its status tells what the file is
     pub judging : CommandMay files (Some (check name)) s → TellsSoundness files name s
-    unfolding MayBe
     judging m = by-file (finite.get files name) m.outcome refl m.may (plain m)
 
     -- a sound archive's versions are counted
     pub checking : ((c d : Contents) (bytes : List ℕ) → FullAs c bytes → FullAs d bytes → c ≡ d)
         → (h : Held) → Holds files name h → CommandMay files (Some (check name)) s → s ≡ step_from files (checked files h.versions)
-    unfolding MayBe
     checking one h a m = plain m ∙ ap (step_from files) (judged m.outcome (subst (λ o. GoesOn (or_refuse o (no_file name)) (IsFound files name) m.outcome) a.there m.may))
       where
         judged : (r : Result Outcome Refusal) → IsFound files name a.bytes r → r ≡ checked files h.versions

@@ -1,31 +1,15 @@
 -- Commands by themselves, and a batch.
-use Rattle.std.proofs.Common.{◌≡◌, ◌⊎◌, ◌↔◌, inl, inr, ℕ, Bool, true, false, IsTrue, Option, None, Some, refl, arith}
+use Rattle.std.proofs.Common.{◌≡◌, ◌⊎◌, ◌↔◌, inl, inr, ℕ, Bool, true, false, IsTrue, Option, None, Some, refl, sym, ap, ◌∙◌, arith}
 use Rattle.xa_outside.specs.Causes.{Rose}
-use Rattle.xarch_words.specs.Commands.{PlainCommand, norm, init, add, rekey, get, history, log, check, stats, versions, export, import, cut, join, table, tablekeys, batch, demo}
+use Rattle.xarch_words.specs.Commands.{PlainCommand, batch}
+use Rattle.xarch_meanings.specs.CommandLaws.{single-alone}
 use Rattle.xarch_meanings.specs.Step.{alone}
 use Rattle.xarch_run.specs.Batch.{IsAnswer}
 
 -- what is no command by itself is none, or a batch
 pub none-alone : (c : Option PlainCommand) → alone c ≡ None → ¬ (c ≡ Some batch) → c ≡ None
 none-alone None e other = refl
-none-alone (Some (norm spec doc)) e other = absurd cc
-none-alone (Some (init archive spec)) e other = absurd cc
-none-alone (Some (add archive doc note)) e other = absurd cc
-none-alone (Some (rekey archive spec)) e other = absurd cc
-none-alone (Some (get archive i)) e other = absurd cc
-none-alone (Some (history archive path)) e other = absurd cc
-none-alone (Some (log archive path)) e other = absurd cc
-none-alone (Some (check archive)) e other = absurd cc
-none-alone (Some (stats archive)) e other = absurd cc
-none-alone (Some (versions archive)) e other = absurd cc
-none-alone (Some (export archive)) e other = absurd cc
-none-alone (Some (import text new)) e other = absurd cc
-none-alone (Some (cut archive new i j)) e other = absurd cc
-none-alone (Some (join one two new)) e other = absurd cc
-none-alone (Some (table csv tag keys doc)) e other = absurd cc
-none-alone (Some (tablekeys tag keys spec)) e other = absurd cc
-none-alone (Some batch) e other = absurd (other refl)
-none-alone (Some (demo seed count archive)) e other = absurd cc
+none-alone (Some command) e other = sym (single-alone command (λ is. other (ap (λ z. Some z) is))) ∙ e
 
 -- ---- which branch
 

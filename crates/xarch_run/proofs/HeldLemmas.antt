@@ -18,30 +18,31 @@ use Rattle.xarch_words.specs.Commands.{PlainCommand, norm, init, add, rekey, get
 use Rattle.xarch_words.specs.Refusal.{specification, Refusal, bad_text, exists, no_file}
 use Rattle.xarch_words.specs.Refusal as refusal
 use Rattle.xarch_words.specs.declared.limits.TheConstants.{DEMO, SPECIFICATION, TEXT}
-use Rattle.xarch_meanings.specs.Add.{AddsTo, added}
+use Rattle.xarch_meanings.specs.Add.{add_input, added, AddsDoc, AddsTo, IsHandedIn, MayAdd}
 use Rattle.noted_file.specs.Contents.{Contents, header_of, unnoted, with_keys, with_version}
 use Rattle.noted_file.specs.Full.{FullAs, FullOf}
 use Rattle.noted_file.proofs.Readings.{same-contents}
 use Rattle.xarch_parts.specs.Archives.{ArchiveIs, GoesOn, Stores, free_in, short_note}
-use Rattle.xarch_meanings.specs.Cut.{CutsFrom, cut_checked, slice}
+use Rattle.xarch_meanings.specs.Cut.{cut_checked, cut_input, CutsFrom, slice}
 use Rattle.xarch_meanings.specs.Demo.{MakesOrNone, demo_input, samples}
 use Rattle.xarch_meanings.specs.Get.{version_text}
 use Rattle.xarch_meanings.specs.History.{history_text}
 use Rattle.xarch_meanings.specs.Import.{ImportsFrom, import_text}
 use Rattle.xarch_meanings.specs.Init.{init_rules}
-use Rattle.xarch_meanings.specs.Join.{JoinsFrom, join_checked, joined}
+use Rattle.xarch_meanings.specs.Join.{join_checked, join_input, joined, JoinsFrom, MayJoin}
 use Rattle.xarch_meanings.specs.Log.{logged}
 use Rattle.xarch_parts.specs.Inputs.{at_most, length_in, read_in}
 use Rattle.xarch_parts.specs.Outcome.{Outcome, Step, or_refuse, step_from}
-use Rattle.xarch_meanings.specs.Plausible.{DamagedOrSound, MayAdd, MayBe, MayJoin, MayMake, MayOver, add_input, cut_input, join_input, step_behind}
-use Rattle.xarch_meanings.specs.Rekey.{RekeysTo, rekey_rules}
+use Rattle.xarch_meanings.specs.Plausible.{step_behind}
+use Rattle.xarch_meanings.specs.Over.{DamagedOrSound, HasArchive, MayMake, MayOver}
+use Rattle.xarch_meanings.specs.Meanings.{MayBe, ShouldSucceed}
+use Rattle.xarch_meanings.specs.Rekey.{ChangesKeys, IsRekeyed, rekey_rules, RekeysTo}
 use Rattle.xarch_meanings.specs.PlausibleLaws.{late-unlisted, late-unlogged, late-unsound, no-late, plain-step}
 use Rattle.xarch_parts.specs.Readings.{rules_of}
-use Rattle.xarch_meanings.specs.Succeeds.{HasArchive, ShouldSucceed}
 use Rattle.xarch_meanings.specs.Table.{short_rules, table_input}
 use Rattle.xarch_meanings.specs.Versions.{listed}
 use Rattle.xarch_run.specs.Calls.{CommandMay, CommandsDid}
-use Rattle.xarch_run.specs.Held.{Accepted, AddsDoc, BeginsWith, Begun, ChangesKeys, ChangesOrTells, CutsOrTells, GoesOver, HandedIn, Held, HeldAfter, HeldBy, Holds, HoldsBehind, HoldsExactly, IsHandedIn, IsRekeyed, JoinsOrTells, MakesArchive, MakesFile, NoneMakes, RefusalsKeep, TakesKeys, WritesCounts, WritesText}
+use Rattle.xarch_run.specs.Held.{Accepted, BeginsWith, Begun, ChangesOrTells, CutsOrTells, GoesOver, HandedIn, Held, HeldAfter, HeldBy, Holds, HoldsBehind, HoldsExactly, JoinsOrTells, MakesArchive, MakesFile, NoneMakes, RefusalsKeep, TakesKeys, WritesCounts, WritesText}
 use Rattle.xarch_run.specs.Steps.{files_after}
 use Rattle.xarch_run.proofs.OneFile.{archive-moves, chained, cut-taken, ends-refused, goes, import-taken, init-spelled, init-taken, is_for, join-taken, made-is, never, other-name, others-kept, same-name, stored-is, table-taken, taken}
 use Rattle.xarch_run.proofs.Statuses.{status-other}
@@ -71,7 +72,6 @@ record Goes (files : Files) (name : List ℕ) (h : Held) (command : Option Plain
 module _ (files : Files) (name : List ℕ) (h : Held) (a : Holds files name h) where
   -- a document that is handed in is not refused
   not-refused : (doc note : List ℕ) (k : PlainKeyed) (q : Refusal) → IsHandedIn files doc note h k → MayBe files (add name doc note) (Err q) → ⊥
-  unfolding MayBe
   not-refused doc note k q handed m =
       let over = subst (λ (x : Result Unit Refusal). GoesOn x (λ _. MayOver files name (GoesOn (add_input files name doc) (λ _. MayAdd files name)) (AddsTo files name doc note)) (Err q)) handed.short m in
       let adds = over.sound h a in
@@ -83,7 +83,6 @@ module _ (files : Files) (name : List ℕ) (h : Held) (a : Holds files name h) w
 
   -- one that is not refused was handed in
   was-handed : (doc note : List ℕ) (o : Outcome) → MayBe files (add name doc note) (Ok o) → Accepted files name doc note h o.files
-  unfolding MayBe
   was-handed doc note o m =
       goes o (short_note note) (λ _. MayOver files name (GoesOn (add_input files name doc) (λ _. MayAdd files name)) (AddsTo files name doc note)) (Ok o) refl m (λ u short over.
       goes o (added files doc h.rules (length h.versions)) (λ k. Stores files name (with_version h k note)) (Ok o) refl (over.sound h a) (λ k is s.
@@ -92,7 +91,6 @@ module _ (files : Files) (name : List ℕ) (h : Held) (a : Holds files name h) w
 
   -- a specification that is handed in is not refused
   not-rekeyed : (one : OneRekeying) (spec : List ℕ) (i : Held) (q : Refusal) → IsRekeyed files name spec h i → MayBe files (rekey name spec) (Err q) → ⊥
-  unfolding MayBe
   not-rekeyed one spec i q keyed m =
       comes (subst (λ x. GoesOn x (RekeysTo files name h) (Err q)) keyed.specified (m.sound h a))
     where
@@ -106,7 +104,6 @@ module _ (files : Files) (name : List ℕ) (h : Held) (a : Holds files name h) w
 
   -- one that is not refused was handed in
   was-rekeyed : (spec : List ℕ) (o : Outcome) → MayBe files (rekey name spec) (Ok o) → TakesKeys files name spec h o.files
-  unfolding MayBe
   was-rekeyed spec o m =
       goes o (rekey_rules files name spec) (RekeysTo files name h) (Ok o) refl (m.sound h a) (λ rules is s. comes rules is s)
     where
@@ -140,47 +137,40 @@ module _ (files : Files) (name : List ℕ) (h : Held) (a : Holds files name h) w
       (λ e.
       let same = same-name name other e in
       let k = was-rekeyed spec o (subst (λ n. MayBe files (rekey n spec) (Ok o)) (sym same) m) in
-      record { held = k.under; first = inl (same, inl k.keys); archive = k.archive })
+      record { held = k.under; first = inl (same, inl (subst (λ n. IsRekeyed files n spec h k.under) same k.keys)); archive = k.archive })
       (λ e. record { held = h; first = inr (other-name name other e, refl); archive = unchanged o (rekey other spec) e m })
 
   init-here : (o : Outcome) (other spec : List ℕ) → bytes_eq name other ≡ true → MayBe files (init other spec) (Ok o) → Holds o.files name h
-  unfolding MayBe
   init-here o other spec e m =
       let taken-here = subst (λ n. finite.get files n ≡ Some a.bytes) (same-name name other e) a.there in
       goes o (init_rules files other spec) (λ rules. Stores files other (unnoted rules [])) (Ok o) refl m (λ new is _. init-taken files other spec a.bytes new taken-here is)
 
   demo-here : (o : Outcome) (seed count : ℕ) (other : List ℕ) → bytes_eq name other ≡ true → MayBe files (demo seed count other) (Ok o) → Holds o.files name h
-  unfolding MayBe
   demo-here o seed count other e m =
       let taken-here = subst (λ n. finite.get files n ≡ Some a.bytes) (same-name name other e) a.there in
       goes o (demo_input files count other) (λ _. MakesOrNone files other seed count) (Ok o) refl m (λ u is _. ends-refused (at_most refusal.demo DEMO count) (free_in files other) (exists other) u is (taken files other a.bytes taken-here))
 
   cut-here : (o : Outcome) (other new : List ℕ) (i j : ℕ) → bytes_eq name new ≡ true → MayBe files (cut other new i j) (Ok o) → Holds o.files name h
-  unfolding MayBe
   cut-here o other new i j e m =
       let taken-here = subst (λ n. finite.get files n ≡ Some a.bytes) (same-name name new e) a.there in
       goes o (cut_input files other new i j) (λ _. MayMake files other new) (Ok o) refl m.whatever (λ p is _. cut-taken files other new a.bytes i j p taken-here is)
 
   join-here : (o : Outcome) (one two new : List ℕ) → bytes_eq name new ≡ true → MayBe files (join one two new) (Ok o) → Holds o.files name h
-  unfolding MayBe
   join-here o one two new e m =
       let taken-here = subst (λ n. finite.get files n ≡ Some a.bytes) (same-name name new e) a.there in
       goes o (join_input files one two new) (λ _. MayJoin files one two new) (Ok o) refl m.whatever (λ p is _. join-taken files one two new a.bytes p taken-here is)
 
   import-here : (o : Outcome) (text new : List ℕ) → bytes_eq name new ≡ true → MayBe files (import text new) (Ok o) → Holds o.files name h
-  unfolding MayBe
   import-here o text new e m =
       let taken-here = subst (λ n. finite.get files n ≡ Some a.bytes) (same-name name new e) a.there in
       goes o (import_text files text new) (ImportsFrom files new) (Ok o) refl m (λ read is _. import-taken files text new a.bytes read taken-here is)
 
   table-here : (o : Outcome) (csv tag keys doc : List ℕ) → bytes_eq name doc ≡ true → MayBe files (table csv tag keys doc) (Ok o) → Holds o.files name h
-  unfolding MayBe
   table-here o csv tag keys doc e m =
       let taken-here = subst (λ n. finite.get files n ≡ Some a.bytes) (same-name name doc e) a.there in
       chained (table_input files csv doc) _ o (sym m) (λ t is _. table-taken files csv doc a.bytes t taken-here is)
 
   keys-here : (o : Outcome) (tag keys spec : List ℕ) → bytes_eq name spec ≡ true → MayBe files (tablekeys tag keys spec) (Ok o) → Holds o.files name h
-  unfolding MayBe
   keys-here o tag keys spec e m =
       let taken-here = subst (λ n. finite.get files n ≡ Some a.bytes) (same-name name spec e) a.there in
       chained (short_rules tag (key_names keys)) _ o (sym m) (λ rules _ rest. chained (free_in files spec) _ o rest (λ u is _. free-not u (taken files spec a.bytes taken-here) is))
@@ -226,7 +216,7 @@ module _ (files : Files) (name : List ℕ) (h : Held) (a : Holds files name h) w
   refused-goes one q (rekey other spec) m = by-name (bytes_eq name other)
       (λ e.
       let same = same-name name other e in
-      record { held = h; first = inl (same, inr (record { none = λ i keyed. not-rekeyed one spec i q keyed (subst (λ n. MayBe files (rekey n spec) (Err q)) (sym same) m); is = refl })); archive = a })
+      record { held = h; first = inl (same, inr (record { none = λ i keyed. not-rekeyed one spec i q (subst (λ n. IsRekeyed files n spec h i) (sym same) keyed) (subst (λ n. MayBe files (rekey n spec) (Err q)) (sym same) m); is = refl })); archive = a })
       (λ e. record { held = h; first = inr (other-name name other e, refl); archive = a })
   refused-goes one q (get other i) m = record { held = h; first = refl; archive = a }
   refused-goes one q (history other path) m = record { held = h; first = refl; archive = a }
@@ -297,7 +287,7 @@ one-by one files name (Some (add other doc note)) h i j (inl p) (inl q) = one-ad
 one-by one files name (Some (add other doc note)) h i j (inl p) (inr q) = absurd (q.0 p.0)
 one-by one files name (Some (add other doc note)) h i j (inr p) (inl q) = absurd (p.0 q.0)
 one-by one files name (Some (add other doc note)) h i j (inr p) (inr q) = p.1 ∙ sym q.1
-one-by one files name (Some (rekey other spec)) h i j (inl p) (inl q) = one-changed one files name spec h i j p.1 q.1
+one-by one files name (Some (rekey other spec)) h i j (inl p) (inl q) = one-changed one files other spec h i j p.1 q.1
 one-by one files name (Some (rekey other spec)) h i j (inl p) (inr q) = absurd (q.0 p.0)
 one-by one files name (Some (rekey other spec)) h i j (inr p) (inl q) = absurd (p.0 q.0)
 one-by one files name (Some (rekey other spec)) h i j (inr p) (inr q) = p.1 ∙ sym q.1
@@ -365,7 +355,6 @@ abbrev pub AreNoted : Type 0
 AreNoted = (rules : List PlainRule) (vs : List PlainKeyed) (bytes : List ℕ) → SoundAs rules vs bytes → FullAs (unnoted rules vs) bytes
 
 init-begins : (files : Files) (name other spec : List ℕ) (o : Outcome) → name ≡ other → MayBe files (init other spec) (Ok o) → Begun files name (Some (init other spec)) o.files
-unfolding MayBe
 init-begins files name other spec o same m = goes o (init_rules files other spec) (λ rules. Stores files other (unnoted rules [])) (Ok o) refl m (λ rules is s. record {
   held = unnoted rules [];
   begins = (same, (init-spelled (free_in files other) (length_in files spec refusal.specification SPECIFICATION) (read_in files spec rules_of) rules is, refl, refl));
@@ -373,7 +362,6 @@ init-begins files name other spec o same m = goes o (init_rules files other spec
 })
 
 demo-begins : (noted : AreNoted) (files : Files) (name other : List ℕ) (seed count : ℕ) (o : Outcome) → name ≡ other → MayBe files (demo seed count other) (Ok o) → Begun files name (Some (demo seed count other)) o.files
-unfolding MayBe
 demo-begins noted files name other seed count o same m = goes o (demo_input files count other) (λ _. MakesOrNone files other seed count) (Ok o) refl m (λ _ _ s. record {
   held = unnoted company_rules (samples seed count);
   begins = (same, refl);
@@ -382,7 +370,6 @@ demo-begins noted files name other seed count o same m = goes o (demo_input file
 
 -- some versions of a sound archive, with their notes
 cut-begins : (files : Files) (name other new : List ℕ) (i j : ℕ) (o : Outcome) → name ≡ new → HasArchive files other → MayBe files (cut other new i j) (Ok o) → Begun files name (Some (cut other new i j)) o.files
-unfolding MayBe
 cut-begins files name other new i j o same has m =
     let whole = has.contents in
     let comes : CutsFrom files new i j whole (Ok o) = m.sound whole has.archive in
@@ -394,7 +381,6 @@ cut-begins files name other new i j o same has m =
 
 -- the versions of two sound archives, with their notes
 join-begins : (files : Files) (name one two new : List ℕ) (o : Outcome) → name ≡ new → HasArchive files one × HasArchive files two → MayBe files (join one two new) (Ok o) → Begun files name (Some (join one two new)) o.files
-unfolding MayBe
 join-begins files name one two new o same has m =
     let h : HasArchive files one = has.0 in
     let g : HasArchive files two = has.1 in
@@ -418,7 +404,6 @@ import-there files text new bytes e =
 
 -- what its text is that of
 import-begins : (files : Files) (name text new : List ℕ) (o : Outcome) → name ≡ new → MayBe files (import text new) (Ok o) → Begun files name (Some (import text new)) o.files
-unfolding MayBe
 import-begins files name text new o same m = goes o (import_text files text new) (ImportsFrom files new) (Ok o) refl m begun
   where
     begun : (bytes : List ℕ) → import_text files text new ≡ Ok bytes → ImportsFrom files new bytes (Ok o) → Begun files name (Some (import text new)) o.files
@@ -458,29 +443,7 @@ pub step-begins : (noted : AreNoted) (files : Files) (name : List ℕ) (command 
 step-begins noted files name None s m success makes over = absurd makes
 step-begins noted files name (Some command) s m success makes over = outcome-begins noted files name command s m.written m.outcome m.may m.is success makes over
 
--- what begins an archive makes one
-begins-makes : (files : Files) (name : List ℕ) (command : Option PlainCommand) (h : Held) → BeginsWith files name command h → MakesArchive name command
-begins-makes files name None h b = b
-begins-makes files name (Some (norm spec doc)) h b = b
-begins-makes files name (Some (init other spec)) h b = b.0
-begins-makes files name (Some (add other doc note)) h b = b
-begins-makes files name (Some (rekey other spec)) h b = b
-begins-makes files name (Some (get other i)) h b = b
-begins-makes files name (Some (history other path)) h b = b
-begins-makes files name (Some (log other path)) h b = b
-begins-makes files name (Some (check other)) h b = b
-begins-makes files name (Some (stats other)) h b = b
-begins-makes files name (Some (versions other)) h b = b
-begins-makes files name (Some (export other)) h b = b
-begins-makes files name (Some (import text new)) h b = b.0
-begins-makes files name (Some (cut other new i j)) h b = b.0
-begins-makes files name (Some (join one two new)) h b = b.0
-begins-makes files name (Some (table csv tag keys doc)) h b = b
-begins-makes files name (Some (tablekeys tag keys spec)) h b = b
-begins-makes files name (Some batch) h b = b
-begins-makes files name (Some (demo seed count other)) h b = b.0
-
--- and goes over a sound one, if over any
+-- what begins an archive goes over a sound one, if over any
 begins-over : (files : Files) (name : List ℕ) (command : Option PlainCommand) (h : Held) → BeginsWith files name command h → GoesOver files command
 begins-over files name None h b = tt
 begins-over files name (Some (norm spec doc)) h b = tt
@@ -495,8 +458,8 @@ begins-over files name (Some (stats other)) h b = tt
 begins-over files name (Some (versions other)) h b = tt
 begins-over files name (Some (export other)) h b = tt
 begins-over files name (Some (import text new)) h b = tt
-begins-over files name (Some (cut other new i j)) h b = record { contents = b.1.whole; archive = b.1.from }
-begins-over files name (Some (join one two new)) h b = (record { contents = b.1.first; archive = b.1.from }, record { contents = b.1.second; archive = b.1.behind })
+begins-over files name (Some (cut other new i j)) h b = record { contents = b.1.whole; archive = b.1.from; is = tt }
+begins-over files name (Some (join one two new)) h b = (record { contents = b.1.first; archive = b.1.from; is = tt }, record { contents = b.1.second; archive = b.1.behind; is = tt })
 begins-over files name (Some (table csv tag keys doc)) h b = tt
 begins-over files name (Some (tablekeys tag keys spec)) h b = tt
 begins-over files name (Some batch) h b = tt
@@ -508,21 +471,21 @@ OneText = (c d : Contents) (file other text : List ℕ) → FullAs c file → Fu
 
 -- it begins with one thing to hold
 same-beginning : (reading : OneReading) (texts : OneText) (files : Files) (name : List ℕ) (command : Option PlainCommand) (h g : Held) → BeginsWith files name command h → BeginsWith files name command g → h ≡ g
-same-beginning reading texts files name None h g b c = absurd b
-same-beginning reading texts files name (Some (norm spec doc)) h g b c = absurd b
+same-beginning reading texts files name None h g b c = absurd b.0
+same-beginning reading texts files name (Some (norm spec doc)) h g b c = absurd b.0
 same-beginning reading texts files name (Some (init other spec)) h g b c = same-contents h g (one-reading (read_in files spec rules_of) b.1.0 c.1.0) (b.1.1 ∙ sym c.1.1) (b.1.2 ∙ sym c.1.2)
   where
     one-reading : (x : Result (List PlainRule) Refusal) → x ≡ Ok h.rules → x ≡ Ok g.rules → h.rules ≡ g.rules
     one-reading x e f = cc
-same-beginning reading texts files name (Some (add other doc note)) h g b c = absurd b
-same-beginning reading texts files name (Some (rekey other spec)) h g b c = absurd b
-same-beginning reading texts files name (Some (get other i)) h g b c = absurd b
-same-beginning reading texts files name (Some (history other path)) h g b c = absurd b
-same-beginning reading texts files name (Some (log other path)) h g b c = absurd b
-same-beginning reading texts files name (Some (check other)) h g b c = absurd b
-same-beginning reading texts files name (Some (stats other)) h g b c = absurd b
-same-beginning reading texts files name (Some (versions other)) h g b c = absurd b
-same-beginning reading texts files name (Some (export other)) h g b c = absurd b
+same-beginning reading texts files name (Some (add other doc note)) h g b c = absurd b.0
+same-beginning reading texts files name (Some (rekey other spec)) h g b c = absurd b.0
+same-beginning reading texts files name (Some (get other i)) h g b c = absurd b.0
+same-beginning reading texts files name (Some (history other path)) h g b c = absurd b.0
+same-beginning reading texts files name (Some (log other path)) h g b c = absurd b.0
+same-beginning reading texts files name (Some (check other)) h g b c = absurd b.0
+same-beginning reading texts files name (Some (stats other)) h g b c = absurd b.0
+same-beginning reading texts files name (Some (versions other)) h g b c = absurd b.0
+same-beginning reading texts files name (Some (export other)) h g b c = absurd b.0
 same-beginning reading texts files name (Some (import text new)) h g b c =
     let bytes : b.1.bytes ≡ c.1.bytes = one-some b.1.bytes c.1.bytes (finite.get files text) b.1.there c.1.there in
     texts h g b.1.file c.1.file c.1.bytes b.1.full c.1.full (subst (ExportOf h) bytes b.1.spelled) c.1.spelled
@@ -533,14 +496,14 @@ same-beginning reading texts files name (Some (join one two new)) h g b c =
     let first : b.1.first ≡ c.1.first = one-held reading files one b.1.first c.1.first b.1.from c.1.from in
     let second : b.1.second ≡ c.1.second = one-held reading files two b.1.second c.1.second b.1.behind c.1.behind in
     b.1.is ∙ ap (λ (z : Held). joined z b.1.second) first ∙ ap (joined c.1.first) second ∙ sym c.1.is
-same-beginning reading texts files name (Some (table csv tag keys doc)) h g b c = absurd b
-same-beginning reading texts files name (Some (tablekeys tag keys spec)) h g b c = absurd b
-same-beginning reading texts files name (Some batch) h g b c = absurd b
+same-beginning reading texts files name (Some (table csv tag keys doc)) h g b c = absurd b.0
+same-beginning reading texts files name (Some (tablekeys tag keys spec)) h g b c = absurd b.0
+same-beginning reading texts files name (Some batch) h g b c = absurd b.0
 same-beginning reading texts files name (Some (demo seed count other)) h g b c = b.1 ∙ sym c.1
 
 pub step-archive : (reading : OneReading) (texts : OneText) (noted : AreNoted) (files : Files) (name : List ℕ) (command : Option PlainCommand) (s : Step) (h : Held) → CommandMay files command s → s.status ≡ 0 → BeginsWith files name command h → Holds s.files name h
 step-archive reading texts noted files name command s h m success b =
-    let begun = step-begins noted files name command s m success (begins-makes files name command h b) (begins-over files name command h b) in
+    let begun = step-begins noted files name command s m success b.0 (begins-over files name command h b) in
     subst (Holds s.files name) (same-beginning reading texts files name command begun.held h begun.begins b) begun.archive
 
 -- ---- an archive from its beginning on
@@ -579,7 +542,6 @@ module _ (files : Files) (name : List ℕ) (none : finite.get files name ≡ Non
 
   -- there is nothing to add to
   add-absent : (other doc note : List ℕ) → bytes_eq name other ≡ true → MayBe files (add other doc note) (Ok o) → StaysAbsent
-  unfolding MayBe
   add-absent other doc note e m =
       let none-here = subst (λ n. finite.get files n ≡ None) (same-name name other e) none in
       let refused : add_input files other doc ≡ Err (no_file other) = rw none-here refl in
@@ -587,7 +549,6 @@ module _ (files : Files) (name : List ℕ) (none : finite.get files name ≡ Non
       (λ _ _ over. goes o (add_input files other doc) (λ _. MayAdd files other) (Ok o) refl over.whatever (λ p is _. absurd cc))
 
   rekey-absent : (other spec : List ℕ) → bytes_eq name other ≡ true → MayBe files (rekey other spec) (Ok o) → StaysAbsent
-  unfolding MayBe
   rekey-absent other spec e m =
       let none-here = subst (λ n. finite.get files n ≡ None) (same-name name other e) none in
       let refused : rekey_rules files other spec ≡ Err (no_file other) = rw none-here refl in
@@ -661,39 +622,30 @@ module _ (files : Files) (name : List ℕ) (h : Held) (s : Step) (a : Holds file
       by_outcome (Err q) may is = refused-status files s m.written q is success
 
   pub keys-told : (spec : List ℕ) → CommandMay files (Some (rekey name spec)) s → ChangesOrTells files name spec h s
-  unfolding MayBe
   keys-told spec m = record { outcome = m.outcome; comes = m.may.sound h a; is = plain-step files (Some (rekey name spec)) s m (no-late files (Some (rekey name spec)) m.outcome (λ q late. late)) }
 
   pub getting : (i : ℕ) → CommandMay files (Some (get name i)) s → s ≡ step_from files (version_text files h.versions i)
-  unfolding MayBe
   getting i m = plain-step files (Some (get name i)) s m (late-unsound files name i h m.outcome a m.may) ∙ ap (step_from files) (m.may.sound h a)
 
   pub telling : (path : List ℕ) → CommandMay files (Some (history name path)) s → s ≡ step_from files (history_text files h.rules h.versions path)
-  unfolding MayBe
   telling path m = plain-step files (Some (history name path)) s m (no-late files (Some (history name path)) m.outcome (λ q late. late)) ∙ ap (step_from files) (m.may.sound h a)
 
   pub logging : (path : List ℕ) → CommandMay files (Some (log name path)) s → s ≡ step_from files (logged files h.rules h.versions path)
-  unfolding MayBe
   logging path m = plain-step files (Some (log name path)) s m (late-unlogged files name path h m.outcome a m.may) ∙ ap (step_from files) (m.may.sound h a)
 
   pub exporting : CommandMay files (Some (export name)) s → WritesText files h s
-  unfolding MayBe
   exporting m = record { outcome = m.outcome; text = m.may.sound h a; is = plain-step files (Some (export name)) s m (no-late files (Some (export name)) m.outcome (λ q late. late)) }
 
   pub cutting : (new : List ℕ) (i j : ℕ) → CommandMay files (Some (cut name new i j)) s → CutsOrTells files new i j h s
-  unfolding MayBe
   cutting new i j m = record { outcome = m.outcome; comes = m.may.sound h a; is = plain-step files (Some (cut name new i j)) s m (no-late files (Some (cut name new i j)) m.outcome (λ q late. late)) }
 
   pub joining : (two new : List ℕ) (g : Held) → Holds files two g → CommandMay files (Some (join name two new)) s → JoinsOrTells files name two new h g s
-  unfolding MayBe
   joining two new g b m = record { outcome = m.outcome; comes = m.may.sound h g a b; is = plain-step files (Some (join name two new)) s m (no-late files (Some (join name two new)) m.outcome (λ q late. late)) }
 
   pub counting : CommandMay files (Some (stats name)) s → WritesCounts files h s
-  unfolding MayBe
   counting m = record { outcome = m.outcome; counts = m.may.sound h a; is = plain-step files (Some (stats name)) s m (no-late files (Some (stats name)) m.outcome (λ q late. late)) }
 
   pub listing : CommandMay files (Some (versions name)) s → s ≡ step_from files (listed files h.notes)
-  unfolding MayBe
   listing m = plain-step files (Some (versions name)) s m (late-unlisted files name h m.outcome a m.may) ∙ ap (step_from files) (m.may.sound h a)
 
 -- ---- what is held

@@ -9,18 +9,16 @@ use Rattle.archive_text.specs.Export.{ExportOf}
 use Rattle.xarch_words.specs.Commands.{PlainCommand, export, import}
 use Rattle.xarch_words.specs.Refusal.{Refusal}
 use Rattle.xarch_words.specs.declared.limits.TheConstants.{TEXT}
-use Rattle.xarch_meanings.specs.Import.{import_text}
-use Rattle.xarch_meanings.specs.Plausible.{MayBe}
+use Rattle.xarch_meanings.specs.Import.{CanImport, import_text, IsTextOf}
+use Rattle.xarch_meanings.specs.Meanings.{MayBe, ShouldSucceed}
 use Rattle.xarch_meanings.specs.PlausibleLaws.{no-late, plain-step}
-use Rattle.xarch_meanings.specs.Succeeds.{CanImport, ShouldSucceed}
 use Rattle.xarch_parts.specs.Outcome.{Outcome, Step, step_from}
 use Rattle.xarch_run.specs.Calls.{CommandMay}
-use Rattle.xarch_run.specs.Held.{Held, Holds, ImportsOrTells, IsTextOf}
+use Rattle.xarch_run.specs.Held.{Held, Holds, ImportsOrTells}
 use Rattle.xarch_run.proofs.HeldLemmas.{AreNoted, OneReading, OneText, exporting, should-succeed, step-archive, step-begins}
 
 -- the step is what comes of the text
 pub importing : (files : Files) (text new : List ℕ) (s : Step) → CommandMay files (Some (import text new)) s → ImportsOrTells files text new s
-unfolding MayBe
 importing files text new s m = record { outcome = m.outcome; comes = m.may; is = plain-step files (Some (import text new)) s m (no-late files (Some (import text new)) m.outcome (λ q late. late)) }
 
 -- what is taken is the text of an archive
@@ -46,7 +44,6 @@ module _ (reading : OneReading) (texts : OneText) (noted : AreNoted) where
       → ((files : Files) (command : PlainCommand) (q : Refusal) → ShouldSucceed files command → MayBe files command (Err q) → ⊥)
       → (files later : Files) (name text new : List ℕ) (h : Held) (s t : Step) → Holds files name h → CommandMay files (Some (export name)) s → finite.get later text ≡ Some s.output → length s.output ≤ TEXT → finite.get later new ≡ None
       → CommandMay later (Some (import text new)) t → (t.status ≡ 0) × (finite.get t.files new ≡ finite.get files name)
-  unfolding ShouldSucceed
   restoring one defined never files later name text new h s t a e there short free m =
       let wrote = exporting files name h s a e in
       let output : s.output ≡ wrote.text.text = ap (λ (z : Step). z.output) wrote.is ∙ ap (λ (r : Result Outcome Refusal). (step_from files r).output) wrote.text.is in

@@ -22,3 +22,4 @@ pub mod ImportLemmas
 pub mod CallLemmas
 pub mod BatchFronts
 pub mod TableLemmas
+pub mod MergedLemmas

@@ -9,11 +9,9 @@ use Rattle.xarch_words.specs.Refusal.{PlainFault, out_fault, refused, usage}
 use Rattle.xarch_parts.specs.AllowedLaws.{MayEnd-stopped, gained-none}
 use Rattle.xarch_parts.specs.EndLaws.{HasItsCause-command, IsOfCommand-usage}
 use Rattle.xarch_parts.specs.Ends.{HasItsCause, IsCaused}
-use Rattle.xarch_meanings.specs.CommandLaws.{only_makes_none}
-use Rattle.xarch_meanings.specs.FillsUp.{FillsUp, IsLimited}
+use Rattle.xarch_meanings.specs.Meanings.{FillsUp, IsLimited, IsSilent, MayDo, meaning}
+use Rattle.xarch_meanings.specs.CommandLaws.{reading-none}
 use Rattle.xarch_meanings.specs.Performs.{Performs}
-use Rattle.xarch_meanings.specs.Plausible.{MayDo}
-use Rattle.xarch_meanings.specs.Ran.{IsSilent}
 use Rattle.xarch_run.specs.Obeys.{Obeys}
 
 -- what was done beside an output that never failed is no fault of the output
@@ -66,8 +64,8 @@ module _ {S : Type 0} (files : S → Option Files) (draft : S → Option (List �
       untold = p.keeps.untold;
       draft_untold = p.keeps.draft_untold;
       still_told = p.keeps.told;
-      same_files = λ only. p.keeps.same_files (only_makes_none command only);
-      same_draft = λ only. p.keeps.same_draft (only_makes_none command only);
+      same_files = λ only. p.keeps.same_files (reading-none (meaning command).way only);
+      same_draft = λ only. p.keeps.same_draft (reading-none (meaning command).way only);
       counts = p.keeps.counts;
       one_pass = p.one_pass;
       little = p.little;

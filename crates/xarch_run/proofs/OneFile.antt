@@ -22,7 +22,7 @@ use Rattle.archive_file.specs.Sound.{SoundAs}
 use Rattle.noted_file.specs.Contents.{Contents, unnoted, with_keys}
 use Rattle.noted_file.specs.Full.{FullAs}
 use Rattle.xarch_parts.specs.Archives.{ArchiveIs, GoesOn, Stores, free_in, short_note}
-use Rattle.xarch_meanings.specs.Add.{AddsTo}
+use Rattle.xarch_meanings.specs.Add.{add_input, AddsTo, MayAdd}
 use Rattle.xarch_meanings.specs.Check.{IsFound, check_text}
 use Rattle.xarch_meanings.specs.Table.{document_for, kept_as, keys_tabled, rows_of, short_rules, table_input, tabled}
 use Rattle.xarch_meanings.specs.Export.{ExportsFrom}
@@ -30,12 +30,18 @@ use Rattle.xarch_meanings.specs.Demo.{MakesOrNone, demo_input, samples}
 use Rattle.xarch_meanings.specs.Import.{ImportsFrom, import_text}
 use Rattle.xarch_meanings.specs.Init.{init_rules}
 use Rattle.xarch_parts.specs.Inputs.{file_length, file_of, length_in, read_in}
-use Rattle.xarch_meanings.specs.Cut.{are_versions}
+use Rattle.xarch_meanings.specs.Cut.{are_versions, cut_input}
 use Rattle.xarch_meanings.specs.Norm.{norm_of}
 use Rattle.xarch_parts.specs.Outcome.{Outcome, and_then, or_refuse}
 use Rattle.xarch_meanings.specs.Rekey.{RekeysFrom, RekeysTo, rekey_rules}
-use Rattle.xarch_meanings.specs.Plausible.{DamagedOrSound, MayAdd, MayBe, MayJoin, MayMake, MayOver, MayWrite, add_input, cut_input, get_input, history_input, join_input, log_input, stats_input, versions_input}
-use Rattle.xarch_meanings.specs.Ran.{made_name}
+use Rattle.xarch_meanings.specs.Over.{DamagedOrSound, MayMake, MayOver, MayWrite}
+use Rattle.xarch_meanings.specs.Meanings.{made_name, MayBe}
+use Rattle.xarch_meanings.specs.Join.{join_input, MayJoin}
+use Rattle.xarch_meanings.specs.Get.{get_input}
+use Rattle.xarch_meanings.specs.History.{history_input}
+use Rattle.xarch_meanings.specs.Log.{log_input}
+use Rattle.xarch_meanings.specs.Stats.{stats_input}
+use Rattle.xarch_meanings.specs.Versions.{versions_input}
 use Rattle.xarch_parts.specs.Readings.{document_of, front_in, keyed_of, rules_of}
 
 -- ---- files by name
@@ -165,7 +171,6 @@ module _ (files : Files) (name : List ℕ) (o : Outcome) where
     imports-elsewhere new bytes e (inr n) = never o bad_text r is n.is
 
     pub others-kept : (command : PlainCommand) → is_for name command ≡ false → MayBe files command r → Keeps
-    unfolding MayBe
     others-kept (norm spec doc) e h = same-files (norm-keeps files spec doc o (sym h ∙ is))
     others-kept (init other spec) e h = goes o (init_rules files other spec) (λ rules. Stores files other (unnoted rules [])) r is h (λ rules _ s. stores-elsewhere other (unnoted rules []) e s)
     others-kept (add other doc note) e h =

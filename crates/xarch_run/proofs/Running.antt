@@ -9,9 +9,10 @@ use Rattle.xarch_words.specs.Refusal.{Refusal, PlainFault, refused, folder_fault
 use Rattle.xarch_words.specs.Lines.{refusal_status}
 use Rattle.xarch_parts.specs.Outcome.{Outcome, Step, output_of, step_from}
 use Rattle.xarch_parts.specs.Ends.{EndsGained, Gained, HasItsCause}
-use Rattle.xarch_meanings.specs.Ran.{GainsBy, MayHaveWritten, Ran, status_after, line_after, outside_of, Says}
+use Rattle.xarch_meanings.specs.Ran.{Ran, status_after, line_after, outside_of, Says}
+use Rattle.xarch_meanings.specs.Meanings.{GainsBy, MayComeLate, MayDo, MayHaveWritten}
 use Rattle.xarch_parts.specs.Allowed.{MayEnd, MayEndLate, PutSome}
-use Rattle.xarch_meanings.specs.Plausible.{MayComeLate, MayDo, Plausible, Tried, Wrote, step_behind}
+use Rattle.xarch_meanings.specs.Plausible.{Plausible, Tried, Wrote, step_behind}
 use Rattle.xarch_meanings.specs.CommandLaws.{met-status}
 use Rattle.xarch_meanings.specs.PlausibleLaws.{behind-none}
 use Rattle.xarch_meanings.specs.Step.{Defines, StepIs, single_of}

@@ -7,10 +7,10 @@ use Rattle.xa_outside.specs.Taken.{Taken}
 use Rattle.xarch_words.specs.Commands.{PlainCommand}
 use Rattle.xarch_words.specs.Refusal.{Refusal, PlainFault, out_fault}
 use Rattle.xarch_parts.specs.Outcome.{Outcome, Step}
-use Rattle.xarch_meanings.specs.Plausible.{MayBe, MayDo, Plausible, Tried}
-use Rattle.xarch_meanings.specs.Ran.{IsSilent, Says, line_after, outside_of, status_after}
+use Rattle.xarch_meanings.specs.Plausible.{Plausible, Tried}
+use Rattle.xarch_meanings.specs.Meanings.{IsSilent, MayBe, MayDo, ShouldSucceed}
+use Rattle.xarch_meanings.specs.Ran.{Says, line_after, outside_of, status_after}
 use Rattle.xarch_meanings.specs.Step.{Defines, StepIs, alone, single_of}
-use Rattle.xarch_meanings.specs.Succeeds.{ShouldSucceed}
 use Rattle.xarch_run.specs.Obeys.{Obeys}
 use Rattle.xarch_run.specs.StepTaken.{StepTaken}
 use Rattle.xarch_run.proofs.Running.{Tried-from, Wrote-from, gained-any, gained-refused, steady}

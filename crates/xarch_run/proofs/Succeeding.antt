@@ -7,10 +7,9 @@ use Rattle.xarch_words.specs.Commands.{PlainCommand, command_of}
 use Rattle.xarch_words.specs.Refusal.{Refusal, PlainFault, refused, folder_fault, out_fault, in_fault, memory}
 use Rattle.xarch_parts.specs.Ends.{HasItsCause}
 use Rattle.xarch_parts.specs.Allowed.{MayEnd, MayEndLate}
-use Rattle.xarch_meanings.specs.Plausible.{MayBe, MayComeLate, MayDo}
+use Rattle.xarch_meanings.specs.Meanings.{MayBe, MayComeLate, MayDo, ShouldSucceed}
 use Rattle.xarch_meanings.specs.Ran.{status_after}
 use Rattle.xarch_meanings.specs.Step.{alone, single_of}
-use Rattle.xarch_meanings.specs.Succeeds.{ShouldSucceed}
 use Rattle.xarch_run.proofs.Running.{late-end}
 
 -- From what is known of commands that should succeed: none is refused, and each is one by itself.

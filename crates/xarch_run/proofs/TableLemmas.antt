@@ -26,7 +26,6 @@ use Rattle.xarch_parts.specs.Inputs.{file_of, length_in, read_in}
 use Rattle.xarch_parts.specs.Outcome.{Outcome, Step, and_then, step_from}
 use Rattle.xarch_parts.specs.Readings.{document_of, doc_refusal, keyed_of, refused_as, rules_of, spec_refusal, unless_faulty}
 use Rattle.xarch_meanings.specs.KeyLaws.{spelled-keys}
-use Rattle.xarch_meanings.specs.Plausible.{MayBe}
 use Rattle.xarch_meanings.specs.PlausibleLaws.{no-late, plain-step}
 use Rattle.xarch_meanings.specs.Table.{document_for, having, kept_as, keys_tabled, rows_of, short_document, short_rules, table_input, table_refusal, tabled}
 use Rattle.xarch_run.specs.Calls.{CommandMay}
@@ -37,11 +36,9 @@ use Rattle.xarch_run.proofs.Statuses.{status-other}
 -- ---- the steps are defined
 
 pub table-step : (files : Files) (csv tag keys doc : List ℕ) (s : Step) → CommandMay files (Some (table csv tag keys doc)) s → s ≡ step_from files (tabled files csv tag keys doc)
-unfolding MayBe
 table-step files csv tag keys doc s m = plain-step files (Some (table csv tag keys doc)) s m (no-late files (Some (table csv tag keys doc)) m.outcome (λ q late. late)) ∙ ap (step_from files) m.may
 
 pub keys-step : (files : Files) (tag keys spec : List ℕ) (s : Step) → CommandMay files (Some (tablekeys tag keys spec)) s → s ≡ step_from files (keys_tabled files tag keys spec)
-unfolding MayBe
 keys-step files tag keys spec s m = plain-step files (Some (tablekeys tag keys spec)) s m (no-late files (Some (tablekeys tag keys spec)) m.outcome (λ q late. late)) ∙ ap (step_from files) m.may
 
 -- a step that answers 0 is that of an outcome that is not refused

@@ -16,17 +16,17 @@ use Rattle.xarch_words.specs.Refusal.{Refusal, usage, damaged, line, limit, Plai
 use Rattle.xarch_words.specs.declared.limits.TheConstants.{DEMO, LINE}
 use Rattle.xarch_parts.specs.Ends.{Gained}
 use Rattle.xarch_parts.specs.Archives.{GoesOn, free_in}
-use Rattle.xarch_meanings.specs.ByWords.{ByWords}
+use Rattle.xarch_meanings.specs.Meanings.{ByWords, MayDo, MayHaveWritten, OnlyReads, said}
 use Rattle.xarch_meanings.specs.Demo.{MakesOrNone}
 use Rattle.xarch_parts.specs.Outcome.{Outcome, Step, and_then, step_from}
-use Rattle.xarch_meanings.specs.Plausible.{IsLate, MayBe, MayDo, Plausible, Tried, Wrote, step_behind}
-use Rattle.xarch_meanings.specs.PlausibleLaws.{behind-none, late-three}
-use Rattle.xarch_meanings.specs.Ran as ran
-use Rattle.xarch_meanings.specs.Ran.{IsLongDemo, MayHaveWritten, OnlyReads, Said, Says, line_after, outside_of, status_after}
+use Rattle.xarch_meanings.specs.Plausible.{IsLate, Plausible, Tried, Wrote, step_behind}
+use Rattle.xarch_meanings.specs.PlausibleLaws.{behind-none}
+use Rattle.xarch_meanings.specs.Meanings as meanings
+use Rattle.xarch_meanings.specs.Ran.{Said, Says, line_after, outside_of, status_after}
 use Rattle.xarch_meanings.specs.Step.{single_of}
 use Rattle.xarch_run.specs.Batch.{EndsTheBatch, IsPart, RunsOver, scene}
 use Rattle.xarch_run.specs.Lines.{is_blank, without_blanks}
-use Rattle.xarch_run.specs.Steps.{CommandAnswers, IsStep, LineAnswers, LineMay, MakesNone, MayFault, MayPrint, RefusesWith, SpelledAnswers, WordsAnswer, WordsMay, line_command, status_line}
+use Rattle.xarch_run.specs.Steps.{CommandAnswers, IsLongDemo, IsStep, line_command, LineAnswers, LineMay, MakesNone, MayFault, MayPrint, RefusesWith, SpelledAnswers, status_line, WordsAnswer, WordsMay}
 use Rattle.xarch_run.specs.Turns.{IsLastStatus, IsSilent, IsUntouched, LastStatus, LineFaults, LineRuns, LineStops, LineTakes, LineTried, LineWrote, NoStatus, NoWords, StatusComes, StatusEnds, StatusLost}
 use Rattle.xarch_run.specs.Words.{words_of}
 use Rattle.xarch_run.proofs.Cuts.{without_blanks-blank, without_blanks-other}
@@ -127,7 +127,6 @@ refuses-by files r q is = subst (λ (z : Result Outcome Refusal). RefusesWith q 
 
 -- a `demo` of too many documents has no other outcome than its refusal
 long-refused : (files : Files) (c : Option PlainCommand) (r : Result Outcome Refusal) → IsLongDemo c → MayDo files c r → r ≡ Err (limit refusal.demo DEMO)
-unfolding MayBe
 long-refused files None r long may = absurd long
 long-refused files (Some (norm spec doc)) r long may = absurd long
 long-refused files (Some (init archive spec)) r long may = absurd long
@@ -185,34 +184,19 @@ record LateAnswer (c : Option PlainCommand) (r : Result Outcome Refusal) : Type 
 
 late-answer : (files : Files) (c : Option PlainCommand) (r : Result Outcome Refusal) → IsLate files c r → LateAnswer c r
 late-answer files c (Ok o) late = absurd late
-late-answer files None (Err q) late = absurd late
-late-answer files (Some command) (Err q) late =
-    late-three files command q (LateAnswer (Some command) (Err q)) late
-    (λ name i is damage. record { name = name; is = ap (λ z. Err z) damage; may = subst (λ (z : PlainCommand). MayHaveWritten (Some z) 11) (sym is) refl })
-    (λ name path is damage. record { name = name; is = ap (λ z. Err z) damage; may = subst (λ (z : PlainCommand). MayHaveWritten (Some z) 11) (sym is) refl })
-    (λ name is damage. record { name = name; is = ap (λ z. Err z) damage; may = subst (λ (z : PlainCommand). MayHaveWritten (Some z) 11) (sym is) refl })
+late-answer files c (Err q) late = by_late (said c).late refl late
+  where
+    by_late : (o : Option (List ℕ)) → (said c).late ≡ o → MatchOption o ⊥ (λ name. (q ≡ damaged name) × (said c).Ready files) → LateAnswer c (Err q)
+    by_late None is late = absurd late
+    by_late (Some name) is late = record { name = name; is = ap (λ z. Err z) late.0; may = subst (λ (v : Option (List ℕ)). MatchOption v ⊥ (λ _. 11 ≡ 11)) (sym is) refl }
 
--- the answer that comes late is of a `get`, a `log` or a `versions`, and no other
+-- the answer that comes late is that of damage, and no other
 late-status : (c : Option PlainCommand) (answer : ℕ) → MayHaveWritten c answer → answer ≡ 11
-late-status None answer late = absurd late
-late-status (Some (norm spec doc)) answer late = absurd late
-late-status (Some (init archive spec)) answer late = absurd late
-late-status (Some (add archive doc note)) answer late = absurd late
-late-status (Some (rekey archive spec)) answer late = absurd late
-late-status (Some (get archive i)) answer late = late
-late-status (Some (history archive path)) answer late = absurd late
-late-status (Some (log archive path)) answer late = late
-late-status (Some (check archive)) answer late = absurd late
-late-status (Some (stats archive)) answer late = absurd late
-late-status (Some (versions archive)) answer late = late
-late-status (Some (export archive)) answer late = absurd late
-late-status (Some (import text new)) answer late = absurd late
-late-status (Some (cut archive new i j)) answer late = absurd late
-late-status (Some (join one two new)) answer late = absurd late
-late-status (Some (table csv tag keys doc)) answer late = absurd late
-late-status (Some (tablekeys tag keys spec)) answer late = absurd late
-late-status (Some batch) answer late = absurd late
-late-status (Some (demo seed count archive)) answer late = absurd late
+late-status c answer late = by_late (said c).late late
+  where
+    by_late : (o : Option (List ℕ)) → MatchOption o ⊥ (λ _. answer ≡ 11) → answer ≡ 11
+    by_late None late = absurd late
+    by_late (Some name) late = late
 
 eleven-or-not : (answer : ℕ) → (answer ≡ 11) ⊎ ¬ (answer ≡ 11)
 eleven-or-not answer = by_test (answer == 11) refl
@@ -222,45 +206,15 @@ eleven-or-not answer = by_test (answer == 11) refl
     by_test false e = inr (λ same. (let yes : (answer == 11) ≡ true = ap (λ n. n == 11) same in cc))
 
 late-or-not : (c : Option PlainCommand) (answer : ℕ) → MayHaveWritten c answer ⊎ ¬ MayHaveWritten c answer
-late-or-not None answer = inr (λ late. late)
-late-or-not (Some (norm spec doc)) answer = inr (λ late. late)
-late-or-not (Some (init archive spec)) answer = inr (λ late. late)
-late-or-not (Some (add archive doc note)) answer = inr (λ late. late)
-late-or-not (Some (rekey archive spec)) answer = inr (λ late. late)
-late-or-not (Some (get archive i)) answer = eleven-or-not answer
-late-or-not (Some (history archive path)) answer = inr (λ late. late)
-late-or-not (Some (log archive path)) answer = eleven-or-not answer
-late-or-not (Some (check archive)) answer = inr (λ late. late)
-late-or-not (Some (stats archive)) answer = inr (λ late. late)
-late-or-not (Some (versions archive)) answer = eleven-or-not answer
-late-or-not (Some (export archive)) answer = inr (λ late. late)
-late-or-not (Some (import text new)) answer = inr (λ late. late)
-late-or-not (Some (cut archive new i j)) answer = inr (λ late. late)
-late-or-not (Some (join one two new)) answer = inr (λ late. late)
-late-or-not (Some (table csv tag keys doc)) answer = inr (λ late. late)
-late-or-not (Some (tablekeys tag keys spec)) answer = inr (λ late. late)
-late-or-not (Some batch) answer = inr (λ late. late)
-late-or-not (Some (demo seed count archive)) answer = inr (λ late. late)
+late-or-not c answer = by_late (said c).late
+  where
+    by_late : (o : Option (List ℕ)) → MatchOption o ⊥ (λ _. answer ≡ 11) ⊎ ¬ MatchOption o ⊥ (λ _. answer ≡ 11)
+    by_late None = inr (λ late. late)
+    by_late (Some name) = eleven-or-not answer
 
-late-short : (command : PlainCommand) (X : Type 0) → MayHaveWritten (Some command) 11 → IsLongDemo (Some command) → X
-late-short (norm spec doc) X late long = absurd late
-late-short (init archive spec) X late long = absurd late
-late-short (add archive doc note) X late long = absurd late
-late-short (rekey archive spec) X late long = absurd late
-late-short (get archive i) X late long = absurd long
-late-short (history archive path) X late long = absurd late
-late-short (log archive path) X late long = absurd long
-late-short (check archive) X late long = absurd late
-late-short (stats archive) X late long = absurd late
-late-short (versions archive) X late long = absurd long
-late-short (export archive) X late long = absurd late
-late-short (import text new) X late long = absurd late
-late-short (cut archive new i j) X late long = absurd late
-late-short (join one two new) X late long = absurd late
-late-short (table csv tag keys doc) X late long = absurd late
-late-short (tablekeys tag keys spec) X late long = absurd late
-late-short batch X late long = absurd late
-late-short (demo seed count archive) X late long = absurd late
+-- damage is no limit
+late-short : {X : Type 0} (r : Result Outcome Refusal) (name : List ℕ) (q : refusal.PlainQuantity) (n : ℕ) → r ≡ Err (damaged name) → r ≡ Err (limit q n) → X
+late-short r name q n e f = absurd cc
 
 -- the step of an outcome answers as it may
 spelled-plain : (c : Option PlainCommand) (files : Files) (r : Result Outcome Refusal) → (c ≡ None → r ≡ Err usage) → ((step_from files r).status ≡ 2 → c ≡ None) → (IsLongDemo c → r ≡ Err (limit refusal.demo DEMO))
@@ -277,25 +231,25 @@ spelled-plain (Some command) files (Err q) none only long = record {
 }
 
 -- and so does one with a refusal behind output
-spelled-late : (c : Option PlainCommand) (files : Files) (written : List ℕ) (r : Result Outcome Refusal) → LateAnswer c r → SpelledAnswers c (step_behind files written r)
-spelled-late None files written r late = absurd late.may
-spelled-late (Some command) files written r late =
+spelled-late : (c : Option PlainCommand) (files : Files) (written : List ℕ) (r : Result Outcome Refusal) → LateAnswer c r → (IsLongDemo c → r ≡ Err (limit refusal.demo DEMO)) → SpelledAnswers c (step_behind files written r)
+spelled-late None files written r late long = absurd late.may
+spelled-late (Some command) files written r late long =
     subst (λ (z : Result Outcome Refusal). CommandAnswers command (step_behind files written z)) (sym late.is)
-    (record { is = inr (inr (record { may = late.may; name = late.name; line = refl })); long_demo = λ long. late-short command _ late.may long })
+    (record { is = inr (inr (record { may = late.may; name = late.name; line = refl })); long_demo = λ h. late-short r late.name refusal.demo DEMO late.is (long h) })
 
 spelled : (c : Option PlainCommand) (files : Files) (written : List ℕ) (r : Result Outcome Refusal) → (written ≡ []) ⊎ LateAnswer c r → (c ≡ None → r ≡ Err usage) → ((step_behind files written r).status ≡ 2 → c ≡ None)
     → (IsLongDemo c → r ≡ Err (limit refusal.demo DEMO)) → SpelledAnswers c (step_behind files written r)
 spelled c files written r (inl nothing) none only long =
     let same : step_behind files written r ≡ step_from files r = ap (λ (w : List ℕ). step_behind files w r) nothing ∙ behind-none files r in
     subst (SpelledAnswers c) (sym same) (spelled-plain c files r none (λ two. only (ap (λ (z : Step). z.status) same ∙ two)) long)
-spelled c files written r (inr late) none only long = spelled-late c files written r late
+spelled c files written r (inr late) none only long = spelled-late c files written r late long
 
 -- what a call for a command says of the words that it was given, whatever the folder tells
 pub record Judged (words : List (List ℕ)) (answer : ℕ) : Type 0 where
   pub none : single_of words ≡ None → answer ≡ 2
   pub only : answer ≡ 2 → single_of words ≡ None
   pub long : IsLongDemo (single_of words) → answer ≡ 12
-  pub silent : ran.IsSilent (single_of words) → outside_of answer ≢ Some out_fault
+  pub silent : meanings.IsSilent (single_of words) → outside_of answer ≢ Some out_fault
 
 -- such a `demo` is refused by its words
 long-ended : (c : Option PlainCommand) (ended : Option PlainFault) → ByWords c ended → IsLongDemo c → ended ≡ Some (refused (limit refusal.demo DEMO))
@@ -321,7 +275,7 @@ long-ended (Some (demo seed count archive)) ended by h = by h
 
 -- from what a step of the words ended with
 module _ (words : List (List ℕ)) (answer : ℕ) (ended : Option PlainFault) (status : answer ≡ status_after ended) (by : ByWords (single_of words) ended) where
-  pub judged : (ended ≡ Some (refused usage)) ↔ (single_of words ≡ None) → (ran.IsSilent (single_of words) → answer ≢ 14) → Judged words answer
+  pub judged : (ended ≡ Some (refused usage)) ↔ (single_of words ≡ None) → (meanings.IsSilent (single_of words) → answer ≢ 14) → Judged words answer
   judged is_usage never = record {
     none = λ none. status ∙ ap status_after (is_usage.1 none);
     only = λ two. is_usage.0 (end-usage ended (sym status ∙ two));
@@ -372,7 +326,7 @@ may-fault l words answer fault short is j h =
 -- and one of the output only a command that may print
 may-print : (l : List ℕ) (words : List (List ℕ)) (answer : ℕ) (fault : PlainFault) → nat_lt LINE (length l) ≡ false → words_of l ≡ Some words → Judged words answer → outside_of answer ≡ Some fault → fault ≡ out_fault → MayPrint l
 may-print l words answer fault short is j h out quiet =
-    j.silent (subst ran.IsSilent (spelled-command l words short is) quiet) (h ∙ ap (λ (v : PlainFault). Some v) out)
+    j.silent (subst meanings.IsSilent (spelled-command l words short is) quiet) (h ∙ ap (λ (v : PlainFault). Some v) out)
 
 -- a step of the words from told files
 words-step : (f g : Option Files) (h : Files) (l : List ℕ) (words : List (List ℕ)) (s : Step) → f ≡ Some h → nat_lt LINE (length l) ≡ false → words_of l ≡ Some words → Plausible h words s → SpelledAnswers (single_of words) s → KeptBy f g words s → IsStep f g l s

@@ -1,29 +1,23 @@
 -- What an archive holds after commands: the documents that were handed in to it.
-use Rattle.std.specs.Prelude.{◌≡◌, ◌≢◌, ◌↔◌, ◌⊎◌, ℕ, List, [], ◌∷◌, ◌++◌, length, Option, Some, None, Result, Ok, ⊤}
+use Rattle.std.specs.Prelude.{◌≡◌, ◌≢◌, ◌↔◌, ◌⊎◌, ℕ, List, [], ◌∷◌, Option, None, Result, ⊤}
 use Rattle.std.specs.FinMap as finite
 use Rattle.xa_outside.specs.Folder.{Files}
 use Rattle.keyed_tree.specs.Data.{PlainKeyed}
-use Rattle.record_format.specs.Files.{FileOf}
-use Rattle.noted_file.specs.Contents.{Contents, unnoted, with_version}
-use Rattle.noted_file.specs.Full.{Full, FullAs, FullOf}
-use Rattle.archive_rekey.specs.Rekeyed.{AreRekeyed}
-use Rattle.archive_text.specs.Export.{ExportOf}
-use Rattle.xarch_gen.specs.Company.{company_rules}
-use Rattle.xarch_words.specs.Commands.{PlainCommand, init, add, rekey, import, cut, join, table, tablekeys, demo}
+use Rattle.noted_file.specs.Contents.{Contents, with_version}
+use Rattle.noted_file.specs.Full.{Full, FullOf}
+use Rattle.xarch_words.specs.Commands.{PlainCommand}
 use Rattle.xarch_words.specs.Refusal.{Refusal}
-use Rattle.xarch_meanings.specs.Add.{added}
-use Rattle.xarch_parts.specs.Archives.{ArchiveIs, short_note}
-use Rattle.xarch_meanings.specs.Cut.{CutsFrom, slice}
-use Rattle.xarch_meanings.specs.Demo.{samples}
+use Rattle.xarch_parts.specs.Archives.{ArchiveIs}
+use Rattle.xarch_parts.specs.Outcome.{Outcome, Step, step_from}
+use Rattle.xarch_meanings.specs.Add.{IsHandedIn}
+use Rattle.xarch_meanings.specs.Cut.{CutsFrom}
 use Rattle.xarch_meanings.specs.Export.{ExportsFrom}
 use Rattle.xarch_meanings.specs.Import.{ImportIs}
-use Rattle.xarch_meanings.specs.Join.{JoinsFrom, joined}
-use Rattle.xarch_parts.specs.Inputs.{read_in}
-use Rattle.xarch_parts.specs.Outcome.{Outcome, Step, step_from}
-use Rattle.xarch_parts.specs.Readings.{rules_of}
-use Rattle.xarch_meanings.specs.Rekey.{RekeysFrom, rekey_rules}
+use Rattle.xarch_meanings.specs.Join.{JoinsFrom}
+use Rattle.xarch_meanings.specs.Meaning.{ChangesOnly, IsNewArchive, IsNewFile, made_by}
+use Rattle.xarch_meanings.specs.Meanings.{said}
+use Rattle.xarch_meanings.specs.Rekey.{IsRekeyed, RekeysFrom}
 use Rattle.xarch_meanings.specs.Stats.{CountsFrom}
-use Rattle.xarch_meanings.specs.Succeeds.{HasArchive}
 use Rattle.xarch_run.specs.Steps.{files_after}
 
 -- the rules of an archive, its versions in order, and the note of each
@@ -43,59 +37,23 @@ pub record HoldsExactly (files : Files) (name : List ℕ) (h : Held) : Type 0 wh
 
 -- ---- how an archive begins
 
--- It is what is left of what the archive of this name holds.
-pub record IsCutFrom (files : Files) (archive : List ℕ) (i j : ℕ) (h : Held) : Type 0 where
-  pub whole : Held
-  pub from : Holds files archive whole
-  pub is : h ≡ slice i j whole
-
--- It is what the archives of these names hold, the second behind the first.
-pub record IsJoinedFrom (files : Files) (one two : List ℕ) (h : Held) : Type 0 where
-  pub first : Held
-  pub second : Held
-  pub from : Holds files one first
-  pub behind : Holds files two second
-  pub is : h ≡ joined first second
-
--- The file of this name is the text of an archive with notes that holds this and has a file.
-pub record IsTextOf (files : Files) (text : List ℕ) (h : Held) : Type 0 where
-  pub bytes : List ℕ
-  pub there : finite.get files text ≡ Some bytes
-  pub spelled : ExportOf h bytes
-  pub file : List ℕ
-  pub full : FullAs h file
+-- the command is an `init`, a `demo`, a `cut`, a `join` or an `import` that makes the archive of this name
+abbrev pub MakesArchive : List ℕ → Option PlainCommand → Type 0
+MakesArchive name command = IsNewArchive name (made_by (said command).way)
 
 -- The command makes the archive of this name, which then holds this: an `init` the rules of its specification and no
 -- versions, a `demo` the company rules and the generated documents, whose notes are empty, a `cut` some versions of what
 -- another archive holds, with their notes, a `join` those of two others, with theirs, an `import` what its text is that of.
 abbrev pub BeginsWith : Files → List ℕ → Option PlainCommand → Held → Type 0
-BeginsWith files name (Some (init archive spec)) h = (name ≡ archive) × ((read_in files spec rules_of ≡ Ok h.rules) × (h.versions ≡ []) × (h.notes ≡ []))
-BeginsWith files name (Some (demo seed count archive)) h = (name ≡ archive) × (h ≡ unnoted company_rules (samples seed count))
-BeginsWith files name (Some (cut archive new i j)) h = (name ≡ new) × IsCutFrom files archive i j h
-BeginsWith files name (Some (join one two new)) h = (name ≡ new) × IsJoinedFrom files one two h
-BeginsWith files name (Some (import text new)) h = (name ≡ new) × IsTextOf files text h
-BeginsWith files name _ h = ⊥
-
--- the command is an `init`, a `demo`, a `cut`, a `join` or an `import` that makes the archive of this name
-abbrev pub MakesArchive : List ℕ → Option PlainCommand → Type 0
-MakesArchive name (Some (init archive spec)) = name ≡ archive
-MakesArchive name (Some (demo seed count archive)) = name ≡ archive
-MakesArchive name (Some (cut archive new i j)) = name ≡ new
-MakesArchive name (Some (join one two new)) = name ≡ new
-MakesArchive name (Some (import text new)) = name ≡ new
-MakesArchive name _ = ⊥
+BeginsWith files name command h = MakesArchive name command × (said command).Begins files h
 
 -- the command makes a new file of this name, be it an archive or not
 abbrev pub MakesFile : List ℕ → Option PlainCommand → Type 0
-MakesFile name (Some (table csv tag keys doc)) = name ≡ doc
-MakesFile name (Some (tablekeys tag keys spec)) = name ≡ spec
-MakesFile name command = MakesArchive name command
+MakesFile name command = IsNewFile name (made_by (said command).way)
 
 -- each archive that a command makes another of is sound
 abbrev pub GoesOver : Files → Option PlainCommand → Type 0
-GoesOver files (Some (cut archive new i j)) = HasArchive files archive
-GoesOver files (Some (join one two new)) = HasArchive files one × HasArchive files two
-GoesOver files other = ⊤
+GoesOver files command = (said command).Over files
 
 -- the archive that the command made
 pub record Begun (files : Files) (name : List ℕ) (command : Option PlainCommand) (now : Files) : Type 0 where
@@ -111,53 +69,10 @@ NoneMakes name (c ∷ cs) (s ∷ ss) = (MakesFile name c → s.status ≢ 0) × 
 
 -- ---- how it goes on
 
--- The document in this file is handed in with this note to an archive that holds this, and this is its keyed tree: within the
--- limits it satisfies the keys, the note is short enough, and the versions with the document have a file.
-pub record IsHandedIn (files : Files) (doc note : List ℕ) (h : Held) (k : PlainKeyed) : Type 0 where
-  pub short : short_note note ≡ Ok tt
-  pub satisfies : added files doc h.rules (length h.versions) ≡ Ok k
-  pub bytes : List ℕ
-  pub file : FileOf h.rules (h.versions ++ k ∷ []) bytes
-
--- the document is handed in, and its tree comes behind the versions, its note behind the notes
-pub record ComesIn (files : Files) (doc note : List ℕ) (h i : Held) : Type 0 where
-  pub tree : PlainKeyed
-  pub handed : IsHandedIn files doc note h tree
-  pub is : i ≡ with_version h tree note
-
--- the document is not handed in, and the versions are as they were
-pub record StaysOut (files : Files) (doc note : List ℕ) (h i : Held) : Type 0 where
-  pub none : (k : PlainKeyed) → ¬ IsHandedIn files doc note h k
-  pub is : i ≡ h
-
--- what an archive holds before a document comes to it and behind that
-abbrev pub AddsDoc : Files → List ℕ → List ℕ → Held → Held → Type 0
-AddsDoc files doc note h i = ComesIn files doc note h i ⊎ StaysOut files doc note h i
-
--- The specification in this file is handed in to the archive of this name, which holds the first before it and the second behind it: it is there, short
--- enough, and has a closed reading, each version satisfies it, and the versions under it have a file. The notes stay.
-pub record IsRekeyed (files : Files) (name spec : List ℕ) (h i : Held) : Type 0 where
-  pub specified : rekey_rules files name spec ≡ Ok i.rules
-  pub satisfied : AreRekeyed i.rules h.versions i.versions
-  pub noted : i.notes ≡ h.notes
-  pub bytes : List ℕ
-  pub file : FileOf i.rules i.versions bytes
-
--- it is not handed in, and all is as it was
-pub record StaysKeyed (files : Files) (name spec : List ℕ) (h i : Held) : Type 0 where
-  pub none : (j : Held) → ¬ IsRekeyed files name spec h j
-  pub is : i ≡ h
-
--- what an archive holds before a specification comes to it and behind that
-abbrev pub ChangesKeys : Files → List ℕ → List ℕ → Held → Held → Type 0
-ChangesKeys files name spec h i = IsRekeyed files name spec h i ⊎ StaysKeyed files name spec h i
-
 -- What the archive of this name holds before a command and behind it: a document comes to it by an `add` that names it, its versions get other keys by
 -- a `rekey` that names it, and no other command changes what it holds.
 abbrev pub HeldBy : Files → List ℕ → Option PlainCommand → Held → Held → Type 0
-HeldBy files name (Some (add archive doc note)) h i = ((name ≡ archive) × AddsDoc files doc note h i) ⊎ ((name ≢ archive) × (i ≡ h))
-HeldBy files name (Some (rekey archive spec)) h i = ((name ≡ archive) × ChangesKeys files name spec h i) ⊎ ((name ≢ archive) × (i ≡ h))
-HeldBy files name _ h i = i ≡ h
+HeldBy files name command h i = ChangesOnly name (made_by (said command).way) ((said command).Changes files) h i
 
 -- what it holds behind the first command, from where the rest is said
 pub record HeldThen (files : Files) (name : List ℕ) (c : Option PlainCommand) (Rest : Held → Type 0) (h : Held) : Type 0 where

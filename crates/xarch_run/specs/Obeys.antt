@@ -9,12 +9,7 @@ use Rattle.xarch_words.specs.Refusal.{PlainFault, folder_fault, out_fault, refus
 use Rattle.xarch_parts.specs.Allowed.{MayEndLate}
 use Rattle.xarch_parts.specs.Ends.{HasItsCause}
 use Rattle.xarch_parts.specs.Folders.{IsTold}
-use Rattle.xarch_meanings.specs.ByWords.{ByWords}
-use Rattle.xarch_meanings.specs.FillsUp.{FillsUp, IsLimited}
-use Rattle.xarch_meanings.specs.OnePass.{GoesOnce}
-use Rattle.xarch_meanings.specs.Plausible.{MayComeLate, MayDo}
-use Rattle.xarch_meanings.specs.Ran.{CountsAsSaid, GainsBy, IsSilent, OnlyReads}
-use Rattle.xarch_meanings.specs.ReadsBack.{ReadsLittle}
+use Rattle.xarch_meanings.specs.Meanings.{ByWords, CountsAsSaid, FillsUp, GainsBy, GoesOnce, IsLimited, IsSilent, MayComeLate, MayDo, OnlyReads, ReadsLittle}
 
 -- The command that the words spell by themselves was done, or they spell none and are refused. The folder was `s` before and is `t` now, the output had
 -- taken `old` and has taken `new`, and its count of faults was `before` and is `now`.

@@ -10,14 +10,10 @@ use Rattle.xarch_words.specs.Refusal.{PlainFault, folder_fault}
 use Rattle.xarch_parts.specs.Ends.{Gained, HasItsCause}
 use Rattle.xarch_parts.specs.Folders.{IsTold}
 use Rattle.xarch_parts.specs.Outcome.{Step}
-use Rattle.xarch_meanings.specs.ByWords.{ByWords}
-use Rattle.xarch_meanings.specs.FillsUp.{FillsUp, IsLimited}
-use Rattle.xarch_meanings.specs.OnePass.{GoesOnce}
+use Rattle.xarch_meanings.specs.Meanings.{ByWords, CountsAsSaid, FillsUp, GoesOnce, IsLimited, IsSilent, MayHaveWritten, OnlyReads, ReadsLittle, ShouldSucceed}
 use Rattle.xarch_meanings.specs.Plausible.{Tried, Wrote}
-use Rattle.xarch_meanings.specs.Ran.{CountsAsSaid, IsSilent, MayHaveWritten, OnlyReads, Ran, Says, line_after, outside_of, status_after}
-use Rattle.xarch_meanings.specs.ReadsBack.{ReadsLittle}
+use Rattle.xarch_meanings.specs.Ran.{line_after, outside_of, Ran, Says, status_after}
 use Rattle.xarch_meanings.specs.Step.{StepIs, single_of}
-use Rattle.xarch_meanings.specs.Succeeds.{ShouldSucceed}
 
 -- The command that the words spell by themselves was done, or they spell none and are refused. The folder was `f` before and is `g` now, the output `o` and
 -- `p`, the error sink `e` and `r`. Of the three it is seen what files and draft the folder tells, what was pulled and drafted, what was taken, and how often

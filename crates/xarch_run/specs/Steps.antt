@@ -1,15 +1,16 @@
 -- The steps that the lines of a batch have the program take.
-use Rattle.std.specs.Prelude.{◌≡◌, ◌≢◌, ◌⊎◌, ℕ, List, [], ◌∷◌, ◌++◌, length, map, nat_lt, MatchBool, Option, Some, None, IsSome, option_and_then, Err, codes, if◌then◌else◌, ⊤}
+use Rattle.std.specs.Prelude.{◌≡◌, ◌≢◌, ◌⊎◌, ◌<◌, ℕ, List, [], ◌∷◌, ◌++◌, length, map, nat_lt, MatchBool, Option, Some, None, IsSome, option_and_then, Err, codes, if◌then◌else◌, ⊤}
 use Rattle.std.specs.Fmt.{decimal}
 use Rattle.std.specs.List.{flat_map}
 use Rattle.xa_outside.specs.Folder.{Files}
-use Rattle.xarch_words.specs.Commands.{PlainCommand}
+use Rattle.xarch_words.specs.Commands.{PlainCommand, demo}
 use Rattle.xarch_words.specs.Lines.{fault_line, refusal_status}
-use Rattle.xarch_words.specs.Refusal.{demo, line, Refusal, usage, damaged, limit, refused}
+use Rattle.xarch_words.specs.Refusal as refusal
+use Rattle.xarch_words.specs.Refusal.{line, Refusal, usage, damaged, limit, refused}
 use Rattle.xarch_words.specs.declared.limits.TheConstants.{DEMO, LINE}
 use Rattle.xarch_parts.specs.Outcome.{Step, step_from}
 use Rattle.xarch_meanings.specs.Plausible.{Plausible}
-use Rattle.xarch_meanings.specs.Ran.{IsLongDemo, IsSilent, MayHaveWritten, OnlyReads}
+use Rattle.xarch_meanings.specs.Meanings.{IsSilent, MayHaveWritten, OnlyReads}
 use Rattle.xarch_meanings.specs.Step.{single_of}
 use Rattle.xarch_run.specs.Words.{words_of}
 
@@ -49,10 +50,15 @@ pub record MeetsDamage (command : PlainCommand) (s : Step) : Type 0 where
   pub name : List ℕ
   pub line : s.line ≡ fault_line (refused (damaged name))
 
+-- a `demo` of too many documents
+abbrev pub IsLongDemo : Option PlainCommand → Type 0
+IsLongDemo (Some (demo seed count archive)) = DEMO < count
+IsLongDemo other = ⊥
+
 -- What a command answers: it was done, or it was refused, a `get`, a `log` or a `versions` maybe behind output, and a `demo` of too many documents is refused.
 pub record CommandAnswers (command : PlainCommand) (s : Step) : Type 0 where
   pub is : DoesCommand s ⊎ (RefusesCommand s ⊎ MeetsDamage command s)
-  pub long_demo : IsLongDemo (Some command) → RefusesWith (limit demo DEMO) s
+  pub long_demo : IsLongDemo (Some command) → RefusesWith (limit refusal.demo DEMO) s
 
 -- words that are no command by themselves are refused
 abbrev pub SpelledAnswers : Option PlainCommand → Step → Type 0

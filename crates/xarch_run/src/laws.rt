@@ -14,7 +14,10 @@ ghost use Rattle.xarch_words.specs.Refusal as refusal;
 ghost use Rattle.xarch_words.specs.Refusal.{PlainFault};
 ghost use Rattle.xarch_words.specs.declared.limits.TheConstants.{DOCUMENT};
 ghost use Rattle.xarch_meanings.specs.Check.{checked};
-ghost use Rattle.xarch_meanings.specs.FillsUp.{IsLimited};
+ghost use Rattle.xarch_meanings.specs.Meanings.{IsLimited, ShouldSucceed};
+ghost use Rattle.xarch_meanings.specs.Add.{IsHandedIn};
+ghost use Rattle.xarch_meanings.specs.Rekey.{IsRekeyed};
+ghost use Rattle.xarch_meanings.specs.Import.{IsTextOf};
 ghost use Rattle.xarch_meanings.specs.Get.{version_text};
 ghost use Rattle.xarch_meanings.specs.History.{history_text};
 ghost use Rattle.xarch_meanings.specs.Log.{logged};
@@ -24,9 +27,8 @@ ghost use Rattle.xarch_meanings.specs.Versions.{listed};
 ghost use Rattle.xarch_parts.specs.Outcome.{Step, step_from};
 ghost use Rattle.xarch_meanings.specs.Plausible.{Plausible};
 ghost use Rattle.xarch_meanings.specs.Step.{single_of};
-ghost use Rattle.xarch_meanings.specs.Succeeds.{ShouldSucceed};
 ghost use Rattle.xarch_run.specs.Calls.{Call, CallsDid, CommandMay, CommandsDid, CommandsLead};
-ghost use Rattle.xarch_run.specs.Held.{Accepted, Begun, ChangesOrTells, CutsOrTells, GoesOver, HandedIn, Held, Holds, HoldsBehind, HoldsExactly, ImportsOrTells, IsHandedIn, IsRekeyed, IsTextOf, JoinsOrTells, MakesArchive, NoneMakes, RefusalsKeep, TakesKeys, TellsSoundness, WritesCounts, WritesText};
+ghost use Rattle.xarch_run.specs.Held.{Accepted, Begun, ChangesOrTells, CutsOrTells, GoesOver, HandedIn, Held, Holds, HoldsBehind, HoldsExactly, ImportsOrTells, JoinsOrTells, MakesArchive, NoneMakes, RefusalsKeep, TakesKeys, TellsSoundness, WritesCounts, WritesText};
 ghost use Rattle.xarch_run.specs.Steps.{LineMay, files_after, line_command};
 ghost use Rattle.xarch_run.specs.Tabled.{HasDocument, HasKeys, IsForKeys};
 
@@ -46,7 +48,7 @@ use xarch_meanings::what_should_succeed_is_not_refused;
 ///
 /// The commands are those of calls of `run`, one after another, and of the lines of their batches.
 /// They may name other archives, sound or not. That merging all of the versions gives the bytes of
-/// the file is clause `held` of `xarch_parts::file_of_versions`.
+/// the file is clause `held` of `file_of_versions`.
 pub fn archives_hold_what_was_handed_in()
     // The file is exactly the encoding of the documents that were handed in since its `init`, or of
     // those of its `demo` and of the documents handed in since then. A document of an `add` is

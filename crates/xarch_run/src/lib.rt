@@ -8,6 +8,7 @@ mod front;
 mod laws;
 mod line;
 mod lines;
+mod merged;
 mod program;
 mod step;
 mod stop;
@@ -18,6 +19,7 @@ pub use answers::say;
 pub use laws::{
     archives_hold_what_was_handed_in, statuses_tell_faults, tables_make_documents_by_their_keys,
 };
+pub use merged::file_of_versions;
 pub use program::run;
 pub use step::take_step;
 pub use xarch_words::{Command, Fault, Quantity, read_words, status, write_fault};

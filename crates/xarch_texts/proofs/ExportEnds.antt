@@ -19,7 +19,9 @@ use Rattle.xarch_parts.specs.Archives.{ArchiveIs, GoesOn, PartsAre}
 use Rattle.xarch_parts.specs.CoreLaws.{core-sound, no-parts, of-parts, parts-read, same-file}
 use Rattle.xarch_parts.specs.Outcome.{Outcome}
 use Rattle.xarch_meanings.specs.Export.{ExportsFrom}
-use Rattle.xarch_meanings.specs.Plausible.{DamagedOrSound, MayBe, stats_input}
+use Rattle.xarch_meanings.specs.Over.{DamagedOrSound}
+use Rattle.xarch_meanings.specs.Meanings.{MayBe}
+use Rattle.xarch_meanings.specs.Stats.{stats_input}
 use Rattle.xarch_texts.specs.Kept.{IsReadOf}
 
 -- From what is known of all archives with notes: where their parts stand, and that their notes come one after another.
@@ -27,7 +29,6 @@ module _ (has_parts : (c : Contents) (bytes : List ℕ) (full : FullAs c bytes) 
     (files : Files) (name : List ℕ) where
   -- the archive is not there, or has no parts
   pub may_refuse_early : (q : Refusal) → stats_input files name ≡ Err q → MayBe files (export name) (Err q)
-  unfolding MayBe
   may_refuse_early q e = record {
     whatever = subst (λ x. GoesOn x (λ _. DamagedOrSound files name) (Err q)) (sym e) refl;
     sound = λ c a. absurd (no-parts has_parts files name c a q e);
@@ -36,7 +37,6 @@ module _ (has_parts : (c : Contents) (bytes : List ℕ) (full : FullAs c bytes) 
   module _ (parts : Parts) (p : PartsAre files name parts) where
     -- what it ends in, behind its parts
     ends : (r : Result Outcome Refusal) → DamagedOrSound files name r → ((c : Contents) → ArchiveIs files name c → ExportsFrom files c r) → MayBe files (export name) r
-    unfolding MayBe
     ends r may exact = record {
       whatever = subst (λ x. GoesOn x (λ _. DamagedOrSound files name) r) (sym (parts-read files name p.bytes parts p.there p.are)) may;
       sound = exact;

@@ -11,7 +11,7 @@ use Rattle.xarch_parts.specs.Archives.{GoesOn}
 use Rattle.xarch_parts.specs.Noted.{CanFollow}
 use Rattle.xarch_parts.specs.Outcome.{Outcome}
 use Rattle.xarch_meanings.specs.Import.{ImportIs, ImportsFrom, IsNoText, import_text}
-use Rattle.xarch_meanings.specs.Plausible.{MayBe}
+use Rattle.xarch_meanings.specs.Meanings.{MayBe}
 use Rattle.xarch_texts.specs.Spelled.{IsFileOf}
 use Rattle.record_parts.specs.declared.limits.TheConstants.{MOST_VERSIONS}
 
@@ -29,7 +29,6 @@ can-follow notes are = record { few = are.few; each = are.each; some = λ e. abs
 module _ (files : Files) (text new : List ℕ) where
   -- the text is not read
   pub import-refused_early : (q : Refusal) → import_text files text new ≡ Err q → MayBe files (import text new) (Err q)
-  unfolding MayBe
   import-refused_early q e = subst (λ (x : Result (List ℕ) Refusal). GoesOn x (ImportsFrom files new) (Err q)) (sym e) refl
 
   module _ (bytes : List ℕ) (read : import_text files text new ≡ Ok bytes) where
@@ -38,12 +37,10 @@ module _ (files : Files) (text new : List ℕ) where
 
     -- it is none
     pub import-refused : (q : Refusal) → IsNoText bytes (Err q) → MayBe files (import text new) (Err q)
-    unfolding MayBe
     import-refused q none = goes (Err q) (inr none)
 
     -- its archive is stored
     pub import-stored : (core : List ℕ) (notes : List (List ℕ)) → IsFileOf bytes core notes → MayBe files (import text new) (Ok (record { files = map.insert files new (core ++ notes_part notes); output = [] }))
-    unfolding MayBe
     import-stored core notes f = goes _ (inl (record {
       contents = record { rules = f.rules; versions = f.versions; notes = notes };
       spelled = f.spelled;

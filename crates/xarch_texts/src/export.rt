@@ -17,7 +17,7 @@ ghost use Rattle.xarch_parts.specs.Ends.{IsCaused, IsInside, fault_of};
 ghost use Rattle.xarch_parts.specs.Inputs.{size_in};
 ghost use Rattle.xarch_parts.specs.Noted.{notes_bytes};
 ghost use Rattle.xarch_meanings.specs.Performs.{Performs};
-ghost use Rattle.xarch_meanings.specs.Plausible.{MayBe};
+ghost use Rattle.xarch_meanings.specs.Meanings.{MayBe};
 ghost use Rattle.xarch_texts.specs.Giving.{Gives};
 ghost use Rattle.xarch_texts.specs.Kept.{IsReadOf, exported};
 

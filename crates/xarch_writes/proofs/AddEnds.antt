@@ -19,7 +19,7 @@ use Rattle.noted_file.specs.Full.{FullAs}
 use Rattle.xarch_words.specs.Commands.{add}
 use Rattle.xarch_words.specs.Refusal.{archive, document, versions, Refusal, no_file, damaged, limit, PlainFault, refused, folder_fault, out_fault, in_fault, memory}
 use Rattle.xarch_words.specs.declared.limits.TheConstants.{DOCUMENT}
-use Rattle.xarch_meanings.specs.Add.{AddsTo, added, room_behind, tree_of}
+use Rattle.xarch_meanings.specs.Add.{add_input, add_read, added, AddsTo, MayAdd, room_behind, text_behind, text_read, tree_of, with_tree}
 use Rattle.xarch_writes.specs.Added.{AddEnds, IsNotAdded, TreeEnds}
 use Rattle.xarch_parts.specs.Archives.{ArchiveIs, GoesOn, Stores, short_note}
 use Rattle.xarch_parts.specs.CoreLaws.{front-sound}
@@ -29,7 +29,8 @@ use Rattle.xarch_parts.specs.Readings.{document_of, front_in, keyed_of}
 use Rattle.xarch_parts.specs.Allowed.{MayEnd}
 use Rattle.xarch_parts.specs.AllowedLaws.{MayEnd-did, MayEnd-more, MayEnd-stopped, defined_refused}
 use Rattle.xa_outside.specs.TakenLaws.{Takes-nil}
-use Rattle.xarch_meanings.specs.Plausible.{MayAdd, MayBe, MayOver, add_input, add_read, text_behind, text_read, with_tree}
+use Rattle.xarch_meanings.specs.Meanings.{MayBe}
+use Rattle.xarch_meanings.specs.Over.{MayOver}
 use Rattle.record_parts.specs.declared.limits.TheConstants.{MOST_VERSIONS}
 
 -- ---- the rules of the archive and the keyed tree of the document
@@ -82,12 +83,10 @@ module _ (has_parts : (c : Contents) (bytes : List ℕ) (full : FullAs c bytes) 
   Over r = MayOver files name (GoesOn (add_input files name doc) (λ _. MayAdd files name)) (AddsTo files name doc note) r
 
   over-may : short_note note ≡ Ok tt → (r : Result Outcome Refusal) → Over r → MayBe files (add name doc note) r
-  unfolding MayBe
   over-may short r h = subst (λ x. GoesOn x (λ _. MayOver files name (GoesOn (add_input files name doc) (λ _. MayAdd files name)) (AddsTo files name doc note)) r) (sym short) h
 
   -- the note is too long
   pub may_refuse_note : (q : Refusal) → short_note note ≡ Err q → MayBe files (add name doc note) (Err q)
-  unfolding MayBe
   may_refuse_note q long = subst (λ x. GoesOn x (λ _. MayOver files name (GoesOn (add_input files name doc) (λ _. MayAdd files name)) (AddsTo files name doc note)) (Err q)) (sym long) refl
 
   -- over a sound archive the document is read by its rules

@@ -13,10 +13,9 @@ use Rattle.xarch_words.specs.View.{fault_view}
 use Rattle.xarch_words.specs.declared.fault.Fault.{Fault}
 use Rattle.xarch_parts.specs.Ends.{fault_of}
 use Rattle.xarch_parts.specs.Outcome.{and_then}
-use Rattle.xarch_meanings.specs.Add.{room_behind, tree_of}
+use Rattle.xarch_meanings.specs.Add.{add_input, room_behind, text_read, tree_of, with_tree}
 use Rattle.xarch_writes.specs.Added.{IsToldAs}
-use Rattle.xarch_meanings.specs.FillsUp.{IsLimited}
-use Rattle.xarch_meanings.specs.Plausible.{add_input, text_read, with_tree}
+use Rattle.xarch_meanings.specs.Meanings.{IsLimited}
 use Rattle.xarch_meanings.proofs.Limited.{one-read}
 use Rattle.record_parts.specs.declared.limits.TheConstants.{MOST_VERSIONS}
 

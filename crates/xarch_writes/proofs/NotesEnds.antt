@@ -25,7 +25,7 @@ use Rattle.xarch_parts.specs.Ends.{IsDefined, fault_of}
 use Rattle.xarch_parts.specs.Inputs.{at_most}
 use Rattle.xarch_parts.specs.Noted.{IsOfNotes}
 use Rattle.xarch_writes.specs.Appending.{GainsNotes, NotesEnd}
-use Rattle.xarch_meanings.specs.FillsUp.{IsLimited}
+use Rattle.xarch_meanings.specs.Meanings.{IsLimited}
 use Rattle.xarch_parts.proofs.Pushing.{after-more, appended-more, at-once-after, gained-more}
 
 -- ---- lists of notes with one more

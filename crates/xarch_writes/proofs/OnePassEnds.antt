@@ -30,7 +30,8 @@ use Rattle.xarch_words.specs.declared.fault.Fault.{Fault}
 use Rattle.xarch_words.specs.declared.limits.TheConstants.{DOCUMENT}
 use Rattle.xarch_parts.specs.Ends.{fault_of}
 use Rattle.xarch_parts.specs.Inputs.{length_in, size_in}
-use Rattle.xarch_meanings.specs.OnePass.{OnePass, document_size, front_size, or_zero}
+use Rattle.xarch_meanings.specs.Add.{document_size, OnePass, or_zero}
+use Rattle.xarch_meanings.specs.History.{front_size}
 use Rattle.xarch_writes.specs.Added.{most_ahead}
 
 -- a length that a document may have is what is read of it

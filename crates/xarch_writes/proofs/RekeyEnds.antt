@@ -32,7 +32,8 @@ use Rattle.xarch_parts.specs.Folders.{ReadsOnly}
 use Rattle.xarch_parts.specs.Inputs.{size_in}
 use Rattle.xarch_parts.specs.Noted.{CanFollow}
 use Rattle.xarch_parts.specs.Outcome.{Outcome}
-use Rattle.xarch_meanings.specs.Plausible.{DamagedOrSound, MayBe}
+use Rattle.xarch_meanings.specs.Over.{DamagedOrSound}
+use Rattle.xarch_meanings.specs.Meanings.{MayBe}
 use Rattle.xarch_meanings.specs.Rekey.{RekeysTo, rekey_rules}
 use Rattle.xarch_writes.specs.Added.{IsDamaged}
 use Rattle.xarch_writes.specs.Appending.{NotesEnd}
@@ -102,7 +103,6 @@ reads-sized {S} {files} {draft} {numbers} {faults} name a b c v same p = subst (
 module _ (files : Files) (name spec : List ℕ) where
   -- a refusal before the archive is read
   pub rekey_refused_early : (q : Refusal) → rekey_rules files name spec ≡ Err q → MayBe files (rekey name spec) (Err q)
-  unfolding MayBe
   rekey_refused_early q e = record {
     whatever = subst (λ x. GoesOn x (λ _. DamagedOrSound files name) (Err q)) (sym e) refl;
     sound = λ c is. subst (λ x. GoesOn x (RekeysTo files name c) (Err q)) (sym e) refl;
@@ -111,7 +111,6 @@ module _ (files : Files) (name spec : List ℕ) where
   module _ (rules : List PlainRule) (input : rekey_rules files name spec ≡ Ok rules) where
     -- what the end of it says, behind the new keys
     ends : (r : Result Outcome Refusal) → DamagedOrSound files name r → ((c : Contents) → ArchiveIs files name c → RekeysTo files name c rules r) → MayBe files (rekey name spec) r
-    unfolding MayBe
     ends r may to = record {
       whatever = subst (λ x. GoesOn x (λ _. DamagedOrSound files name) r) (sym input) may;
       sound = λ c is. subst (λ x. GoesOn x (RekeysTo files name c) r) (sym input) (to c is);

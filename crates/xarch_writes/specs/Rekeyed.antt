@@ -23,7 +23,7 @@ use Rattle.xarch_words.specs.Refusal.{archive, Refusal, damaged, key_fault_in, l
 use Rattle.xarch_parts.specs.Archives.{ArchiveIs, IsDrafted}
 use Rattle.xarch_parts.specs.Ends.{IsOfFolder, TellsOnly}
 use Rattle.xarch_parts.specs.Folders.{WritesOnly}
-use Rattle.xarch_meanings.specs.Plausible.{MayBe}
+use Rattle.xarch_meanings.specs.Meanings.{MayBe}
 
 -- ---- of versions
 

@@ -39,8 +39,7 @@ use nested_merge::merge;
 use std::alloc::{AllocError, Global};
 use xa_outside::{Folder, Sink};
 use xarch_gen::{company_spec, sample};
-use xarch_meanings::write_counts;
-use xarch_parts::{at_most, begin, check_free, commit, draft, file_from};
+use xarch_parts::{at_most, begin, check_free, commit, draft, file_from, write_counts};
 use xarch_words::{Fault, Quantity, limits};
 
 /// Makes an archive of the first documents of a seed, and writes how much it holds before it is

@@ -15,7 +15,7 @@ ghost use Rattle.xarch_parts.specs.Ends.{fault_of};
 ghost use Rattle.xarch_parts.specs.Folders.{ReadsOnly};
 ghost use Rattle.xarch_parts.specs.Noted.{notes_bytes};
 ghost use Rattle.xarch_writes.specs.Appending.{GainsNotes, Grows, NotesEnd};
-ghost use Rattle.xarch_meanings.specs.FillsUp.{IsLimited};
+ghost use Rattle.xarch_meanings.specs.Meanings.{IsLimited};
 
 use std::alloc::Global;
 use version_notes::{

@@ -22,7 +22,7 @@ ghost use Rattle.xarch_parts.specs.Noted.{AreWithin, CanFollow, notes_bytes};
 ghost use Rattle.xarch_parts.specs.Outcome.{and_then};
 ghost use Rattle.xarch_parts.specs.Readings.{front_in, rules_of};
 ghost use Rattle.xarch_meanings.specs.Performs.{Performs};
-ghost use Rattle.xarch_meanings.specs.Plausible.{MayBe};
+ghost use Rattle.xarch_meanings.specs.Meanings.{MayBe};
 ghost use Rattle.xarch_meanings.specs.Rekey.{rekey_rules};
 ghost use Rattle.xarch_writes.specs.Added.{IsDamaged};
 ghost use Rattle.xarch_writes.specs.Rekeyed.{AreRead, CanBeWritten, IsBadTold, IsNoArchive, IsOpened, IsSoundOf, MayStore};

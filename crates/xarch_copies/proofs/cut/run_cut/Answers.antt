@@ -9,8 +9,8 @@ use Rattle.xarch_parts.specs.AllowedLaws.{MayEnd-folder, MayEnd-passed, defined_
 use Rattle.xarch_parts.specs.Ends.{fault_of}
 use Rattle.xarch_parts.specs.FolderLaws.{caused-begin, caused-begun, caused-passed, caused-then, sized, streams-begun, streams-made, streams-not_begun}
 use Rattle.xarch_parts.specs.Inputs.{size_in}
-use Rattle.xarch_meanings.specs.FillsUp.{IsLimited}
-use Rattle.xarch_meanings.specs.Plausible.{MayBe, cut_input}
+use Rattle.xarch_meanings.specs.Meanings.{IsLimited, MayBe}
+use Rattle.xarch_meanings.specs.Cut.{cut_input}
 use Rattle.xarch_meanings.specs.ReadLaws.{reads-once}
 use Rattle.xarch_copies.specs.Making.{behind_front}
 use Rattle.xarch_copies.proofs.CutEnds.{may-end, may-refuse}

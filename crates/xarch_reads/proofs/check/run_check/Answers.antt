@@ -1,6 +1,6 @@
 use Rattle.std.proofs.Common.{inl, ◌∙◌}
 use Rattle.xarch_words.specs.Commands.{check}
-use Rattle.xarch_meanings.specs.Plausible.{MayBe}
+use Rattle.xarch_meanings.specs.Meanings.{MayBe}
 use Rattle.xarch_meanings.specs.Check.{check_text}
 use Rattle.xarch_parts.specs.FolderLaws.{caused-passed, caused-read, caused-written, keeps-read}
 use Rattle.xarch_parts.specs.AllowedLaws.{MayEnd-passed, MayEnd-written, gained-none, gained-written, tells_same}

@@ -8,7 +8,7 @@ use Rattle.xarch_parts.specs.FolderLaws.{reads-more, reads-passed, reads-then}
 use Rattle.xarch_parts.specs.InputLaws.{IsDefined-file}
 use Rattle.xarch_parts.specs.Inputs.{file_of}
 use Rattle.xarch_parts.specs.Readings.{front_in}
-use Rattle.xarch_meanings.specs.OnePass.{front_size}
+use Rattle.xarch_meanings.specs.History.{front_size}
 use Rattle.std.proofs.lemmas.Result.{IfOk-weaker}
 use Rattle.xarch_parts.specs.CoreLaws.{within-more}
 use Rattle.xarch_reads.proofs.fronts.front_of.Goals as goal

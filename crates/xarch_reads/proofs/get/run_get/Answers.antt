@@ -5,7 +5,7 @@ use Rattle.xarch_words.specs.View.{fault_view}
 use Rattle.xarch_parts.specs.CoreLaws.{of-parts}
 use Rattle.xarch_parts.specs.AllowedLaws.{MayEnd-passed, gained-none}
 use Rattle.xarch_parts.specs.FolderLaws.{caused-passed, caused-read, keeps-read, reads-more}
-use Rattle.xarch_meanings.specs.Plausible.{MayBe}
+use Rattle.xarch_meanings.specs.Meanings.{MayBe}
 use Rattle.xarch_reads.proofs.GetEnds.{absent-parts, get-caused, get-keeps, get-little}
 use Rattle.xarch_reads.proofs.get.run_get.Goals as goal
 

@@ -5,9 +5,8 @@ use Rattle.record_cursor.specs.View.{header_view}
 use Rattle.xa_outside.specs.NumberLaws.{PullsAtMost-more}
 use Rattle.xarch_words.specs.Commands.{history}
 use Rattle.xarch_words.specs.Refusal.{Refusal, memory, refused}
-use Rattle.xarch_meanings.specs.History.{numbers_text}
-use Rattle.xarch_meanings.specs.OnePass.{front_size}
-use Rattle.xarch_meanings.specs.Plausible.{MayBe, history_input}
+use Rattle.xarch_meanings.specs.History.{front_size, history_input, numbers_text}
+use Rattle.xarch_meanings.specs.Meanings.{MayBe}
 use Rattle.xarch_parts.specs.AllowedLaws.{MayEnd-passed, MayEnd-written, defined_refused, gained-none, gained-written, tells_same}
 use Rattle.xarch_parts.specs.FolderLaws.{caused-passed, caused-read, caused-written, keeps-read, reads-inside, reads-more}
 use Rattle.xarch_reads.proofs.HistoryEnds.{little-read, may_refuse, may_refuse_early, may_write, searched-read}

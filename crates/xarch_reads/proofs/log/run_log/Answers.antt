@@ -5,8 +5,8 @@ use Rattle.record_cursor.specs.View.{header_view}
 use Rattle.xa_outside.specs.NumberLaws.{PullsAtMost-more}
 use Rattle.xarch_words.specs.Commands.{log}
 use Rattle.xarch_meanings.specs.Log.{ending_at_frontier}
-use Rattle.xarch_meanings.specs.OnePass.{front_size}
-use Rattle.xarch_meanings.specs.Plausible.{MayBe, history_input}
+use Rattle.xarch_meanings.specs.History.{front_size, history_input}
+use Rattle.xarch_meanings.specs.Meanings.{MayBe}
 use Rattle.xarch_parts.specs.AllowedLaws.{MayEnd-passed, defined_refused, gained-none}
 use Rattle.xarch_parts.specs.FolderLaws.{caused-passed, caused-read, keeps-read, reads-inside, reads-more}
 use Rattle.xarch_reads.proofs.LogEnds.{given-there, little-logged, log-given, log-caused, log-keeps, log-refused, refused-before, refused-there}

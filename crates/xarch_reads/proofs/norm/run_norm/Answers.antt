@@ -2,14 +2,12 @@ use Rattle.std.proofs.Common.{inl, ◌≡◌, List, [], ℕ, Ok, arith, sym, ap,
 use Rattle.std.specs.FinMap as map
 use Rattle.key_spec.specs.View.{spec_view}
 use Rattle.xarch_meanings.specs.Norm.{norm_from, norm_of}
-use Rattle.xarch_meanings.specs.Plausible.{MayBe}
 use Rattle.xarch_parts.specs.FolderLaws.{caused-passed, caused-read, caused-then, keeps-read}
 use Rattle.xarch_parts.specs.AllowedLaws.{MayEnd-more, MayEnd-passed, MayEnd-told, defined_refused, gained-may, gained-none}
 use Rattle.xarch_reads.proofs.NormEnds.{norm-goes_on, norm-refused}
 use Rattle.xarch_reads.proofs.norm.run_norm.Goals as goal
 
 pub returns-in_err-spec : goal.returns-in_err-spec
-unfolding MayBe
 returns-in_err-spec g c = record {
   keeps = keeps-read _ _ _ _ _ c.in_err-spec.ensures.reads;
   caused = caused-passed _ _ _ _ c.from_residual.result _ c.from_residual.ensures.1 (caused-read _ _ _ _ _ c.in_err-spec.ensures.reads);
@@ -23,7 +21,6 @@ returns-in_err-spec g c = record {
 }
 
 pub returns : goal.returns
-unfolding MayBe
 returns g c = record {
   keeps = keeps-read _ _ _ _ _ c.in_ok-spec.ensures.reads;
   caused = caused-then _ _ _ _ _ _ _ (caused-read _ _ _ _ _ c.in_ok-spec.ensures.reads) (c.write_ordered.ensures.caused _ _ (omega arith));

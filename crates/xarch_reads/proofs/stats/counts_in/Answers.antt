@@ -8,7 +8,7 @@ use Rattle.xarch_parts.specs.Readings.{parts_of}
 use Rattle.xarch_parts.specs.EndLaws.{IfOk-passed, IsDefined-here, IsOfFolder-inside}
 use Rattle.xarch_parts.specs.FolderLaws.{reads-more, reads-passed, reads-then}
 use Rattle.xarch_parts.specs.AllowedLaws.{IfErr-passed, defined_refused}
-use Rattle.xarch_meanings.specs.Plausible.{stats_input}
+use Rattle.xarch_meanings.specs.Stats.{stats_input}
 use Rattle.xarch_reads.proofs.PartEnds.{behind}
 use Rattle.xarch_reads.proofs.StatsEnds.{may_refuse_early, may_count, may_refuse, refuses_only}
 use Rattle.xarch_reads.proofs.stats.counts_in.Goals as goal

@@ -1,8 +1,8 @@
 use Rattle.std.proofs.Common.{inl, ◌∙◌}
 use Rattle.archive_stats.specs.View.{counts_view}
 use Rattle.xarch_words.specs.Commands.{stats}
-use Rattle.xarch_meanings.specs.Plausible.{MayBe}
-use Rattle.xarch_meanings.specs.Stats.{counts_text}
+use Rattle.xarch_meanings.specs.Meanings.{MayBe}
+use Rattle.xarch_parts.specs.Counts.{counts_text}
 use Rattle.xarch_parts.specs.FolderLaws.{caused-passed, caused-read, caused-written, keeps-read}
 use Rattle.xarch_parts.specs.AllowedLaws.{MayEnd-passed, MayEnd-written, gained-none, gained-written, tells_same}
 use Rattle.xarch_reads.proofs.stats.run_stats.Goals as goal

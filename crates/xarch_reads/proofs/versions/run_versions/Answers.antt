@@ -2,7 +2,8 @@ use Rattle.std.proofs.Common.{inl, ◌≡◌, ◌∙◌, arith}
 use Rattle.record_cursor.specs.View.{header_view}
 use Rattle.xarch_words.specs.Commands.{versions}
 use Rattle.xarch_words.specs.Refusal.{Refusal, memory, refused}
-use Rattle.xarch_meanings.specs.Plausible.{MayBe, versions_input}
+use Rattle.xarch_meanings.specs.Meanings.{MayBe}
+use Rattle.xarch_meanings.specs.Versions.{versions_input}
 use Rattle.xarch_parts.specs.Ends.{IsInside}
 use Rattle.xarch_parts.specs.AllowedLaws.{MayEnd-passed, MayEnd-stopped, defined_refused, gained-none}
 use Rattle.xarch_parts.specs.FolderLaws.{caused-passed, caused-read, keeps-read, reads-inside, reads-more}

@@ -1,6 +1,6 @@
 use Rattle.std.proofs.Common.{refl, subst, sym}
 use Rattle.xarch_words.specs.View.{command_view, words_view}
-use Rattle.xarch_meanings.specs.Ran.{IsSilent}
+use Rattle.xarch_meanings.specs.Meanings.{IsSilent}
 use Rattle.xarch_meanings.specs.Step.{single_of}
 use Rattle.xarch_run.proofs.Obeying.{obeys-command, obeys-none}
 use Rattle.xarch_run.proofs.step.command_words.Goals as goal

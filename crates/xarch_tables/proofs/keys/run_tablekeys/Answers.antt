@@ -1,5 +1,4 @@
 use Rattle.std.proofs.Common.{◌≡◌, inl, refl, sym, ◌∙◌, arith}
-use Rattle.xarch_meanings.specs.Plausible.{MayBe}
 use Rattle.xarch_meanings.specs.Table.{kept_as, keys_tabled}
 use Rattle.xarch_parts.specs.FolderLaws.{caused-begin, caused-begun, caused-inside, caused-passed, caused-then, keeps-begun, keeps-made, keeps-none, keeps-not_begun}
 use Rattle.xarch_parts.specs.AllowedLaws.{MayEnd-folder, MayEnd-passed, MayEnd-stored, defined_refused, gained-none}
@@ -7,7 +6,6 @@ use Rattle.xarch_tables.proofs.TableEnds.{either-passed, keys-refused, keys-stor
 use Rattle.xarch_tables.proofs.keys.run_tablekeys.Goals as goal
 
 pub returns-in_err-text : goal.returns-in_err-text
-unfolding MayBe
 returns-in_err-text g c t n = record {
   keeps = keeps-none _ _ _ _;
   caused = caused-passed _ _ _ _ c.from_residual.result _ c.from_residual.ensures.1 (caused-inside _ _ _ _ (omega arith) c.in_err-text.ensures.cause);
@@ -22,7 +20,6 @@ returns-in_err-text g c t n = record {
 }
 
 pub returns-in_err-begin : goal.returns-in_err-begin
-unfolding MayBe
 returns-in_err-begin g c t n = record {
   keeps = keeps-not_begun _ _ _ _ _ _ refl c.in_err-begin.ensures.begins;
   caused = caused-passed _ _ _ _ c.from_residual-in_err-begin.result _ c.from_residual-in_err-begin.ensures.1 (caused-begin _ _ _ _ c.in_err-begin.ensures.begins);
@@ -35,7 +32,6 @@ returns-in_err-begin g c t n = record {
 }
 
 pub returns-in_err-check_free : goal.returns-in_err-check_free
-unfolding MayBe
 returns-in_err-check_free g c t n = record {
   keeps = keeps-begun _ _ _ _ _ _ _ c.in_ok-begin.ensures.begins c.in_err-check_free.ensures.reads;
   caused = caused-passed _ _ _ _ c.from_residual-in_err-check_free.result _ c.from_residual-in_err-check_free.ensures.1 (caused-begun _ _ _ _ _ _ c.in_ok-begin.ensures.begins c.in_err-check_free.ensures.reads);
@@ -51,7 +47,6 @@ returns-in_err-check_free g c t n = record {
 }
 
 pub returns : goal.returns
-unfolding MayBe
 returns g c t n = record {
   keeps = keeps-made _ _ _ _ _ _ _ c.in_ok-begin.ensures.begins c.in_ok-check_free.ensures.reads c.store.ensures.writes;
   caused = caused-then _ _ _ _ _ _ _ (caused-begun _ _ _ _ _ _ c.in_ok-begin.ensures.begins c.in_ok-check_free.ensures.reads) (c.store.ensures.caused n);

@@ -1,6 +1,5 @@
 use Rattle.std.proofs.Common.{◌≡◌, inl, refl, sym, ap, ◌∙◌, List, ℕ, Ok}
 use Rattle.csv_tables.specs.View.{table_view}
-use Rattle.xarch_meanings.specs.Plausible.{MayBe}
 use Rattle.xarch_meanings.specs.Table.{kept_as, tabled}
 use Rattle.xarch_parts.specs.FolderLaws.{caused-begin, caused-begun, caused-passed, caused-then, keeps-begun, keeps-made, keeps-not_begun, reads-inside}
 use Rattle.xarch_parts.specs.AllowedLaws.{MayEnd-folder, MayEnd-passed, MayEnd-stored, defined_refused, gained-none}
@@ -8,7 +7,6 @@ use Rattle.xarch_tables.proofs.TableEnds.{table-refused, table-refused_early, ta
 use Rattle.xarch_tables.proofs.table.run_table.Goals as goal
 
 pub returns-in_err-begin : goal.returns-in_err-begin
-unfolding MayBe
 returns-in_err-begin g c t n = record {
   keeps = keeps-not_begun _ _ _ _ _ _ refl c.in_err-begin.ensures.begins;
   caused = caused-passed _ _ _ _ c.from_residual.result _ c.from_residual.ensures.1 (caused-begin _ _ _ _ c.in_err-begin.ensures.begins);
@@ -21,7 +19,6 @@ returns-in_err-begin g c t n = record {
 }
 
 pub returns-in_err-table : goal.returns-in_err-table
-unfolding MayBe
 returns-in_err-table g c t n = record {
   keeps = keeps-begun _ _ _ _ _ _ _ c.in_ok-begin.ensures.begins c.in_err-table.ensures.reads;
   caused = caused-passed _ _ _ _ c.from_residual-in_err-table.result _ c.from_residual-in_err-table.ensures.1 (caused-begun _ _ _ _ _ _ c.in_ok-begin.ensures.begins c.in_err-table.ensures.reads);
@@ -37,7 +34,6 @@ returns-in_err-table g c t n = record {
 }
 
 pub returns-in_err-text : goal.returns-in_err-text
-unfolding MayBe
 returns-in_err-text g c t n = record {
   keeps = keeps-begun _ _ _ _ _ _ _ c.in_ok-begin.ensures.begins c.in_ok-table.ensures.reads;
   caused = caused-passed _ _ _ _ c.from_residual-in_err-text.result _ c.from_residual-in_err-text.ensures.1 (caused-begun _ _ _ _ _ _ c.in_ok-begin.ensures.begins (reads-inside _ _ _ _ c.in_ok-table.ensures.reads c.in_err-text.ensures.cause));
@@ -53,7 +49,6 @@ returns-in_err-text g c t n = record {
 }
 
 pub returns : goal.returns
-unfolding MayBe
 returns g c t n = record {
   keeps = keeps-made _ _ _ _ _ _ _ c.in_ok-begin.ensures.begins c.in_ok-table.ensures.reads c.store.ensures.writes;
   caused = caused-then _ _ _ _ _ _ _ (caused-begun _ _ _ _ _ _ c.in_ok-begin.ensures.begins c.in_ok-table.ensures.reads) (c.store.ensures.caused n);

@@ -7,7 +7,7 @@ use Rattle.xarch_parts.specs.InputLaws.{IsDefined-file}
 use Rattle.xarch_parts.specs.Inputs.{file_of, size_in}
 use Rattle.xarch_parts.specs.Noted.{notes_bytes}
 use Rattle.xarch_parts.specs.Readings.{parts_of}
-use Rattle.xarch_meanings.specs.Plausible.{stats_input}
+use Rattle.xarch_meanings.specs.Stats.{stats_input}
 use Rattle.xarch_texts.proofs.ExportEnds.{may_refuse_early}
 use Rattle.xarch_texts.proofs.GivingLemmas.{gives-passed, gives-then}
 use Rattle.xarch_texts.proofs.export.read_kept.Goals as goal

@@ -1,7 +1,7 @@
 use Rattle.std.proofs.Common.{inl, ◌≡◌, [], arith, sym, subst, ◌∙◌}
 use Rattle.std.specs.FinMap as map
 use Rattle.xarch_words.specs.Commands.{export}
-use Rattle.xarch_meanings.specs.Plausible.{MayBe}
+use Rattle.xarch_meanings.specs.Meanings.{MayBe}
 use Rattle.xarch_parts.specs.AllowedLaws.{MayEnd-more, MayEnd-passed, MayEnd-told, gained-may, gained-none}
 use Rattle.xarch_parts.specs.FolderLaws.{caused-passed, caused-read, caused-then, keeps-read}
 use Rattle.xarch_texts.specs.Kept.{exported}

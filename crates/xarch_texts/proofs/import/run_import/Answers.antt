@@ -4,7 +4,7 @@ use Rattle.std.specs.Prelude.{string_bytes}
 use Rattle.std.specs.FinMap as map
 use Rattle.version_notes.specs.Notes.{AreNotes, notes_part}
 use Rattle.xarch_words.specs.Commands.{import}
-use Rattle.xarch_meanings.specs.Plausible.{MayBe}
+use Rattle.xarch_meanings.specs.Meanings.{MayBe}
 use Rattle.xarch_parts.specs.AllowedLaws.{MayEnd-folder, MayEnd-passed, MayEnd-stored, defined_refused, gained-none}
 use Rattle.xarch_parts.specs.FolderLaws.{caused-begin, caused-begun, caused-passed, caused-then, keeps-begun, keeps-made, keeps-not_begun, reads-inside}
 use Rattle.xarch_meanings.specs.Import.{import_text}

@@ -11,10 +11,10 @@ use Rattle.xarch_parts.specs.Ends.{fault_of}
 use Rattle.xarch_parts.specs.FolderLaws.{caused-begin, caused-begun, caused-passed, caused-then, reads-none, sized, streams-begun, streams-made, streams-not_begun}
 use Rattle.xarch_parts.specs.Inputs.{size_in}
 use Rattle.xarch_parts.specs.Noted.{AreWithin, notes_bytes}
-use Rattle.xarch_meanings.specs.OnePass.{document_size, front_size}
-use Rattle.xarch_meanings.specs.Plausible.{MayBe, text_read}
+use Rattle.xarch_meanings.specs.Add.{document_size, text_read}
+use Rattle.xarch_meanings.specs.History.{front_size}
+use Rattle.xarch_meanings.specs.Meanings.{IsLimited, MayBe}
 use Rattle.xarch_meanings.specs.ReadLaws.{reads-once}
-use Rattle.xarch_meanings.specs.FillsUp.{IsLimited}
 use Rattle.xarch_writes.proofs.AddEnds.{may_refuse_note, may_refuse_text, may-ended}
 use Rattle.xarch_writes.proofs.FullEnds.{full-by, given, limited-passed}
 use Rattle.xarch_writes.proofs.NotesEnds.{note-is}

@@ -4,7 +4,8 @@ use Rattle.xa_outside.specs.NumberLaws.{PullsAtMost-more, PullsAtMost-trans}
 use Rattle.xarch_parts.specs.EndLaws.{IfOk-passed, IsDefined-here, IsDefined-next, Matches-next, Matches-passed}
 use Rattle.xarch_parts.specs.FolderLaws.{reads-more, reads-passed, reads-then}
 use Rattle.xarch_parts.specs.InputLaws.{length_in-length}
-use Rattle.xarch_meanings.specs.OnePass.{document_size, front_size}
+use Rattle.xarch_meanings.specs.Add.{document_size}
+use Rattle.xarch_meanings.specs.History.{front_size}
 use Rattle.std.proofs.lemmas.Result.{IfOk-weaker}
 use Rattle.xarch_words.specs.declared.limits.TheConstants.{DOCUMENT}
 use Rattle.xarch_writes.proofs.OnePassEnds.{size-of}

@@ -5,7 +5,7 @@ use Rattle.xarch_words.specs.View.{fault_view}
 use Rattle.xarch_parts.specs.Inputs.{file_of}
 use Rattle.xarch_parts.specs.EndLaws.{IfOk-passed, IsDefined-here, IsDefined-next, Matches-passed, and_then-Ok}
 use Rattle.xarch_parts.specs.FolderLaws.{reads-more, reads-passed, reads-then}
-use Rattle.xarch_meanings.specs.OnePass.{front_size}
+use Rattle.xarch_meanings.specs.History.{front_size}
 use Rattle.xarch_writes.proofs.add.read_text.Goals as goal
 
 pub returns-in_err-front-clause-reads : goal.returns-in_err-front-clause-reads

@@ -2,7 +2,6 @@ use Rattle.std.proofs.Common.{inl, refl, sym, ◌∙◌, arith}
 use Rattle.xarch_words.specs.Refusal as refusal
 use Rattle.xarch_words.specs.declared.limits.TheConstants.{DEMO}
 use Rattle.xarch_parts.specs.Archives.{free_in}
-use Rattle.xarch_meanings.specs.Plausible.{MayBe}
 use Rattle.xarch_meanings.specs.Demo.{DemoIs, MakesOrNone}
 use Rattle.xarch_parts.specs.Inputs.{at_most}
 use Rattle.xarch_writes.proofs.DemoEnds.{goes_on, refused_many, refused_name}
@@ -11,7 +10,6 @@ use Rattle.xarch_parts.specs.AllowedLaws.{MayEnd-folder, MayEnd-more, MayEnd-pas
 use Rattle.xarch_writes.proofs.demo.run_demo.Goals as goal
 
 pub returns-in_err-check_few : goal.returns-in_err-check_few
-unfolding MayBe
 returns-in_err-check_few g c = record {
   keeps = keeps-none _ _ _ _;
   caused = caused-passed _ _ _ _ c.from_residual.result _ c.from_residual.ensures.1 (caused-inside _ _ _ _ (omega arith) c.in_err-check_few.ensures.cause);
@@ -25,7 +23,6 @@ returns-in_err-check_few g c = record {
 }
 
 pub returns-in_err-begin : goal.returns-in_err-begin
-unfolding MayBe
 returns-in_err-begin g c = record {
   keeps = keeps-not_begun _ _ _ _ _ _ refl c.in_err-begin.ensures.begins;
   caused = caused-passed _ _ _ _ c.from_residual-in_err-begin.result _ c.from_residual-in_err-begin.ensures.1 (caused-begin _ _ _ _ c.in_err-begin.ensures.begins);
@@ -37,7 +34,6 @@ returns-in_err-begin g c = record {
 }
 
 pub returns-in_err-check_free : goal.returns-in_err-check_free
-unfolding MayBe
 returns-in_err-check_free g c = record {
   keeps = keeps-begun _ _ _ _ _ _ _ c.in_ok-begin.ensures.begins c.in_err-check_free.ensures.reads;
   caused = caused-passed _ _ _ _ c.from_residual-in_err-check_free.result _ c.from_residual-in_err-check_free.ensures.1 (caused-begun _ _ _ _ _ _ c.in_ok-begin.ensures.begins c.in_err-check_free.ensures.reads);
@@ -52,7 +48,6 @@ returns-in_err-check_free g c = record {
 }
 
 pub returns : goal.returns
-unfolding MayBe
 returns g c = record {
   keeps = keeps-made _ _ _ _ _ _ _ c.in_ok-begin.ensures.begins c.in_ok-check_free.ensures.reads c.make_sample.ensures.writes;
   caused = caused-then _ _ _ _ _ _ _ (caused-begun _ _ _ _ _ _ c.in_ok-begin.ensures.begins c.in_ok-check_free.ensures.reads) c.make_sample.ensures.caused;

@@ -5,7 +5,6 @@ use Rattle.archive_tree.specs.ArchiveView.{archive_view}
 use Rattle.archive_file.specs.Sound.{SoundAs}
 use Rattle.noted_file.specs.Contents.{unnoted}
 use Rattle.noted_file.specs.Full.{FullAs}
-use Rattle.xarch_meanings.specs.Plausible.{MayBe}
 use Rattle.xarch_meanings.specs.Init.{InitIs, init_rules}
 use Rattle.xarch_parts.specs.FolderLaws.{caused-begin, caused-begun, caused-passed, caused-then, keeps-begun, keeps-made, keeps-not_begun, reads-inside}
 use Rattle.xarch_writes.proofs.InitEnds.{init_refused_early, init_stored, init_refused, none_keyed}
@@ -13,7 +12,6 @@ use Rattle.xarch_parts.specs.AllowedLaws.{MayEnd-passed, MayEnd-folder, MayEnd-s
 use Rattle.xarch_writes.proofs.init.run_init.Goals as goal
 
 pub returns-in_err-begin : goal.returns-in_err-begin
-unfolding MayBe
 returns-in_err-begin g c t n = record {
   keeps = keeps-not_begun _ _ _ _ _ _ refl c.in_err-begin.ensures.begins;
   caused = caused-passed _ _ _ _ c.from_residual.result _ c.from_residual.ensures.1 (caused-begin _ _ _ _ c.in_err-begin.ensures.begins);
@@ -25,7 +23,6 @@ returns-in_err-begin g c t n = record {
 }
 
 pub returns-in_err-spec : goal.returns-in_err-spec
-unfolding MayBe
 returns-in_err-spec g c t n = record {
   keeps = keeps-begun _ _ _ _ _ _ _ c.in_ok-begin.ensures.begins c.in_err-spec.ensures.reads;
   caused = caused-passed _ _ _ _ c.from_residual-in_err-spec.result _ c.from_residual-in_err-spec.ensures.1 (caused-begun _ _ _ _ _ _ c.in_ok-begin.ensures.begins c.in_err-spec.ensures.reads);
@@ -40,7 +37,6 @@ returns-in_err-spec g c t n = record {
 }
 
 pub returns-in_err-bytes : goal.returns-in_err-bytes
-unfolding MayBe
 returns-in_err-bytes g c t n = record {
   keeps = keeps-begun _ _ _ _ _ _ _ c.in_ok-begin.ensures.begins c.in_ok-spec.ensures.reads;
   caused = caused-passed _ _ _ _ c.from_residual-in_err-bytes.result _ c.from_residual-in_err-bytes.ensures.1 (caused-begun _ _ _ _ _ _ c.in_ok-begin.ensures.begins (reads-inside _ _ _ _ c.in_ok-spec.ensures.reads c.in_err-bytes.ensures.cause));
@@ -55,7 +51,6 @@ returns-in_err-bytes g c t n = record {
 }
 
 pub returns : goal.returns
-unfolding MayBe
 returns g c t n = record {
   keeps = keeps-made _ _ _ _ _ _ _ c.in_ok-begin.ensures.begins c.in_ok-spec.ensures.reads c.store.ensures.writes;
   caused = caused-then _ _ _ _ _ _ _ (caused-begun _ _ _ _ _ _ c.in_ok-begin.ensures.begins c.in_ok-spec.ensures.reads) (c.store.ensures.caused n);

@@ -3,7 +3,7 @@ use Rattle.std.specs.Prelude.{string_bytes}
 use Rattle.key_spec.specs.View.{spec_view}
 use Rattle.spelled_archive.specs.ArchiveView.{spelled_archive_view}
 use Rattle.xarch_words.specs.Commands.{rekey}
-use Rattle.xarch_meanings.specs.Plausible.{MayBe}
+use Rattle.xarch_meanings.specs.Meanings.{MayBe}
 use Rattle.xarch_parts.specs.FolderLaws.{caused-begin, caused-begun, caused-passed, caused-then, keeps-begun, keeps-made, keeps-not_begun}
 use Rattle.xarch_parts.specs.AllowedLaws.{MayEnd-passed, MayEnd-folder, gained-none}
 use Rattle.xarch_writes.proofs.RekeyEnds.{reads-sized, stored-may}

@@ -1,6 +1,6 @@
 use Rattle.std.proofs.Common.{rules}
 use Rattle.xa_outside.specs.BufferedLaws.{Puts-unflushed, Puts-flushed}
-use Rattle.xarch_meanings.proofs.counts.put_counts.Goals as goal
+use Rattle.xarch_parts.proofs.counts.put_counts.Goals as goal
 
 pub returns-in_err-put_lines-clause-bytes : goal.returns-in_err-put_lines-clause-bytes
 returns-in_err-put_lines-clause-bytes g c =

@@ -1,6 +1,6 @@
 use Rattle.xa_outside.specs.TakenLaws.{Takes-trans, TakesPrefix-after, TakesPrefix-more, Puts-after, Puts-failed}
-use Rattle.xarch_meanings.specs.Stats.{nodes_text}
-use Rattle.xarch_meanings.proofs.counts.put_nodes.Goals as goal
+use Rattle.xarch_parts.specs.Counts.{nodes_text}
+use Rattle.xarch_parts.proofs.counts.put_nodes.Goals as goal
 
 pub returns-in_err-put_count-clause-bytes : goal.returns-in_err-put_count-clause-bytes
 unfolding nodes_text

@@ -1,7 +1,7 @@
 use Rattle.std.proofs.Common.{List, ℕ, ◌∙◌, subst}
 use Rattle.xa_outside.specs.Taken.{Takes, TakesPrefix}
 use Rattle.xa_outside.specs.TakenLaws.{Takes-trans, TakesPrefix-after, TakesPrefix-more, Puts-after, Puts-failed}
-use Rattle.xarch_meanings.proofs.counts.put_count.Goals as goal
+use Rattle.xarch_parts.proofs.counts.put_count.Goals as goal
 
 pub returns-clause-bytes : goal.returns-clause-bytes
 returns-clause-bytes g c =

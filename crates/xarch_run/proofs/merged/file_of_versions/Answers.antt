@@ -6,8 +6,8 @@ use Rattle.keyed_tree.specs.Proper.{IsElement}
 use Rattle.keyed_tree.specs.View.{keyed_view}
 use Rattle.keyed_tree.specs.WellFormed.{IsKeyedWellFormed}
 use Rattle.archive_file.specs.KeyedBy.{IsKeyedBy}
-use Rattle.xarch_parts.proofs.MergedLemmas.{all_more, few_merged, fits_there, held_there, none_of_archive, of_archive, only_keyed}
-use Rattle.xarch_parts.proofs.merged.file_of_versions.Goals as goal
+use Rattle.xarch_run.proofs.MergedLemmas.{all_more, few_merged, fits_there, held_there, none_of_archive, of_archive, only_keyed}
+use Rattle.xarch_run.proofs.merged.file_of_versions.Goals as goal
 
 pub merge_all-requires-clause-versions : goal.merge_all-requires-clause-versions
 merge_all-requires-clause-versions c =

@@ -1,6 +1,6 @@
 use Rattle.xa_outside.specs.TakenLaws.{Puts-after, Puts-failed}
-use Rattle.xarch_meanings.specs.Stats.{counts_text}
-use Rattle.xarch_meanings.proofs.counts.put_lines.Goals as goal
+use Rattle.xarch_parts.specs.Counts.{counts_text}
+use Rattle.xarch_parts.proofs.counts.put_lines.Goals as goal
 
 pub returns-in_err-put_nodes-clause-bytes : goal.returns-in_err-put_nodes-clause-bytes
 unfolding counts_text

@@ -5,7 +5,7 @@ ghost use Rattle.xa_outside.specs.Causes.{HasCause};
 ghost use Rattle.xa_outside.specs.Taken.{Puts};
 ghost use Rattle.archive_stats.specs.View.{counts_view};
 ghost use Rattle.xarch_parts.specs.Ends.{IsOfOutput, fault_of};
-ghost use Rattle.xarch_meanings.specs.Stats.{counts_text, nodes_text, sizes_text};
+ghost use Rattle.xarch_parts.specs.Counts.{counts_text, nodes_text, sizes_text};
 
 use archive_stats::Counts;
 use itoa::{Buffer, Integer};
@@ -13,7 +13,7 @@ use xa_outside::{Buffered, Failed, Sink, put_all};
 use xarch_words::Fault;
 
 /// Writes a number behind its name, and a line feed.
-#[tactic(auto, unfolding(xarch_parts::specs::Ends::IsOfOutput))]
+#[tactic(auto, unfolding(crate::specs::Ends::IsOfOutput))]
 pub fn write_count<O: Sink, N: Integer>(out: &mut O, name: &[u8], number: N) -> Result<(), Fault>
     ensures bytes { Puts (O.taken out.old) (O.taken out.new) result
         (name.now ++ N.text number ++ codes "\n") }
@@ -27,7 +27,7 @@ pub fn write_count<O: Sink, N: Integer>(out: &mut O, name: &[u8], number: N) -> 
 }
 
 /// Writes the seven lines of counts.
-#[tactic(auto, unfolding(xarch_parts::specs::Ends::IsOfOutput))]
+#[tactic(auto, unfolding(crate::specs::Ends::IsOfOutput))]
 pub fn write_counts<O: Sink>(counts: &Counts, out: &mut O) -> Result<(), Fault>
     ensures bytes { Puts (O.taken out.old) (O.taken out.new) result
         (counts_text (counts_view counts.now)) }
@@ -50,7 +50,7 @@ fn put_counts<O: Sink>(counts: &Counts, out: &mut O) -> Result<(), Failed>
     lines.flush()
 }
 
-#[tactic(auto, using(xa_outside::specs::TakenLaws::outputs), unfolding(crate::specs::Stats::counts_text))]
+#[tactic(auto, using(xa_outside::specs::TakenLaws::outputs), unfolding(crate::specs::Counts::counts_text))]
 fn put_lines<K: Sink>(counts: &Counts, sink: &mut K) -> Result<(), Failed>
     ensures bytes { Puts (K.taken sink.old) (K.taken sink.new) result
         (counts_text (counts_view counts.now)) }
@@ -60,7 +60,7 @@ fn put_lines<K: Sink>(counts: &Counts, sink: &mut K) -> Result<(), Failed>
     put_sizes(counts, sink)
 }
 
-#[tactic(auto, using(xa_outside::specs::TakenLaws::outputs), unfolding(crate::specs::Stats::nodes_text))]
+#[tactic(auto, using(xa_outside::specs::TakenLaws::outputs), unfolding(crate::specs::Counts::nodes_text))]
 fn put_nodes<K: Sink>(counts: &Counts, sink: &mut K) -> Result<(), Failed>
     ensures bytes { Puts (K.taken sink.old) (K.taken sink.new) result
         (nodes_text (counts_view counts.now)) }
@@ -72,7 +72,7 @@ fn put_nodes<K: Sink>(counts: &Counts, sink: &mut K) -> Result<(), Failed>
     put_count(sink, b"alternatives ", counts.alternatives)
 }
 
-#[tactic(auto, using(xa_outside::specs::TakenLaws::outputs), unfolding(crate::specs::Stats::sizes_text))]
+#[tactic(auto, using(xa_outside::specs::TakenLaws::outputs), unfolding(crate::specs::Counts::sizes_text))]
 fn put_sizes<K: Sink>(counts: &Counts, sink: &mut K) -> Result<(), Failed>
     ensures bytes { Puts (K.taken sink.old) (K.taken sink.new) result
         (sizes_text (counts_view counts.now)) }
