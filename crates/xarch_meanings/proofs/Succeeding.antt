@@ -61,7 +61,7 @@ module _ (one_list : (rules : List PlainRule) (vs us ws : List PlainKeyed) → A
   pub never_refused : (files : Files) (command : PlainCommand) (q : Refusal) → ShouldSucceed files command → MayBe files command (Err q) → ⊥
   never_refused files (norm spec doc) q h m = clash q h.value (m ∙ h.is)
   never_refused files (init name spec) q h m =
-      not_stored files name (unnoted h.0 []) h.1.1.0 q h.1.1.1 (subst (λ (x : Result (List PlainRule) Refusal). GoesOn x (λ rules. Stores files name (unnoted rules [])) (Err q)) h.1.0 m)
+      not_stored files name (unnoted h.0 []) h.2.0 q h.2.1 (subst (λ (x : Result (List PlainRule) Refusal). GoesOn x (λ rules. Stores files name (unnoted rules [])) (Err q)) h.1 m)
   never_refused files (add name doc note) q h m =
       let handed : IsHandedIn files doc note h.contents h.is.0 = h.is.1 in
       let over = subst (λ (x : Result Unit Refusal). GoesOn x (λ _. MayOver files name (GoesOn (add_input files name doc) (λ _. MayAdd files name)) (AddsTo files name doc note)) (Err q)) handed.short m in
