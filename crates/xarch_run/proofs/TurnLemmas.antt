@@ -188,7 +188,7 @@ late-answer files c (Err q) late = by_late (said c).late refl late
   where
     by_late : (o : Option (List ℕ)) → (said c).late ≡ o → MatchOption o ⊥ (λ name. (q ≡ damaged name) × (said c).Ready files) → LateAnswer c (Err q)
     by_late None is late = absurd late
-    by_late (Some name) is late = record { name = name; is = ap (λ z. Err z) late.0; may = subst (λ (v : Option (List ℕ)). MatchOption v ⊥ (λ _. 11 ≡ 11)) (sym is) refl }
+    by_late (Some name) is late = record { name = name; is = ap (λ z. Err z) late.0; may = subst (λ (v : Option (List ℕ)). MatchOption v ⊥ (λ _. ◌≡◌ {A = ℕ} 11 11)) (sym is) refl }
 
 -- the answer that comes late is that of damage, and no other
 late-status : (c : Option PlainCommand) (answer : ℕ) → MayHaveWritten c answer → answer ≡ 11
@@ -379,7 +379,7 @@ module _ (f g : Option Files) (l : List ℕ) (words : List (List ℕ)) (answer :
       by_outcome (Err q) may (inr late) same prefix = inr (record {
         step = some.step;
         may =
-            words-step f g h l words some.step told short is some.may (subst (SpelledAnswers (single_of words)) (sym same) (spelled-late (single_of words) h some.may.written (Err q) (late-answer h (single_of words) (Err q) late)))
+            words-step f g h l words some.step told short is some.may (subst (SpelledAnswers (single_of words)) (sym same) (spelled-late (single_of words) h some.may.written (Err q) (late-answer h (single_of words) (Err q) late) (λ long. long-refused h (single_of words) (Err q) long may)))
             (λ _. kept-behind fault outside);
         output = prefix;
       })

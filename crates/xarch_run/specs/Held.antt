@@ -1,5 +1,5 @@
 -- What an archive holds after commands: the documents that were handed in to it.
-use Rattle.std.specs.Prelude.{◌≡◌, ◌≢◌, ◌↔◌, ◌⊎◌, ℕ, List, [], ◌∷◌, Option, None, Result, ⊤}
+use Rattle.std.specs.Prelude.{◌≡◌, ◌≢◌, ◌↔◌, ◌⊎◌, ℕ, List, [], ◌∷◌, Option, Some, None, Result, ⊤}
 use Rattle.std.specs.FinMap as finite
 use Rattle.xa_outside.specs.Folder.{Files}
 use Rattle.keyed_tree.specs.Data.{PlainKeyed}
