@@ -1,5 +1,5 @@
 -- What `history` does: it writes which versions of an archive hold the element at a path.
-use Rattle.std.specs.Prelude.{◌≡◌, ℕ, List, ◌++◌, codes, Result, Ok, ◌+◌, length, Some, Err}
+use Rattle.std.specs.Prelude.{◌≡◌, ℕ, List, ◌++◌, codes, Result, Ok, ◌+◌, length, Err}
 use Rattle.version_set.specs.Members.{intervals}
 use Rattle.version_set.specs.Text.{set_text}
 use Rattle.xa_outside.specs.Folder.{Files}
