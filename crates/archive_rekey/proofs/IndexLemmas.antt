@@ -14,7 +14,7 @@ use Rattle.timestamp_tree.specs.View.{ts_view}
 use Rattle.timestamp_tree.specs.declared.tree.TsTree.{TsTree}
 use Rattle.archive_tree.specs.Data.{Stamp, PlainAlt, PlainNode, PlainNodes, inner_node, leaf_node, node_stamp, nodes_from, nodes_list}
 use Rattle.archive_tree.specs.Read.{body_at, read, read_root, read_row}
-use Rattle.archive_tree.specs.View.{node_view}
+use Rattle.archive_tree.specs.View.{node_view, nodes_view}
 use Rattle.archive_tree.specs.declared.node.ANode.{ANode}
 use Rattle.archive_tree.proofs.Parts.{nodes_list-nodes_from}
 use Rattle.archive_tree.proofs.Numbers.{Has-has, has_range}
@@ -251,3 +251,10 @@ within-nodes n nodes p h = go nodes p h.within
     go [] p lt = absurd (omega (arith, lt))
     go (x ∷ xs) zero lt = omega arith
     go (x ∷ xs) (suc p) lt = (let rest = go xs p (omega (arith, lt)) in omega (arith, rest))
+
+-- ---- the nodes that are left
+
+-- the row of the nodes that are left begins with the first of them, if the version has it
+pub row-next : (n : ℕ) (nodes : List ANode) (i : ℕ) (k : ANode) → i < length nodes → k ≡ get_or nodes i k
+    → read_row n (n ∷ []) (nodes_view (drop i nodes)) ≡ cond (is_in n (node_stamp (node_view k))) (kid (read n (n ∷ []) (node_view k)) (read_row n (n ∷ []) (nodes_view (drop (i + 1) nodes)))) (read_row n (n ∷ []) (nodes_view (drop (i + 1) nodes)))
+row-next n nodes i k lt is = ap (λ z. read_row n (n ∷ []) (nodes_view z)) (drop-cons nodes i k lt ∙ ap (λ z. z ∷ drop (suc i) nodes) (sym is) ∙ ap (λ m. k ∷ drop m nodes) (sym (add-one i)))

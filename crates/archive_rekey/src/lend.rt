@@ -12,7 +12,8 @@ ghost use Rattle.archive_tree.specs.Data.{node_stamp, nodes_list};
 ghost use Rattle.archive_tree.specs.Read.{body_at, read, read_root, read_row};
 ghost use Rattle.archive_tree.specs.Stands.{ArchiveOf, version_of};
 ghost use Rattle.archive_tree.specs.View.{alt_view, node_view, nodes_view};
-ghost use Rattle.archive_rekey.specs.Index.{IsLeafIndex, IsNodeIndex, IsRowIndex, body_of, index_view, is_in};
+ghost use Rattle.timestamp_tree.specs.View.{ts_view};
+ghost use Rattle.archive_rekey.specs.Index.{IsLeafIndex, IsNodeIndex, IsOver, IsRowIndex, body_of, index_view, is_in};
 ghost use Rattle.archive_rekey.specs.Progress.{IsDocument};
 ghost use Rattle.archive_rekey.specs.Rekeyed.{SpellDocuments};
 
@@ -22,6 +23,7 @@ use jsonml_tree::{LentAttr, LentRow, LentScalar, LentTree};
 use keyed_tree::{Body, KeyVal, Name};
 use std::alloc::{AllocError, Global};
 use std::borrow::CowStr;
+use timestamp_tree::TsTree;
 
 /// The document that the version of that number spells.
 ///
@@ -120,10 +122,35 @@ fn lend_row<'a>(
         (attrs_among (read_row number (number ∷ []) (nodes_view nodes.now)))
         (items_among (read_row number (number ∷ []) (nodes_view nodes.now)))) }
 {
-    let places = row_places(alloc, number, nodes, index)?;
-    let mut attrs = Vec::new(alloc);
+    match tree_in(index) {
+        Some(sets) => lend_found(alloc, number, nodes, index, sets),
+        None => lend_each(alloc, number, nodes, index),
+    }
+}
+
+/// The same, where the nodes that the version has are found by the tree over their sets.
+#[cycle(lend)]
+fn lend_found<'a>(
+    alloc: Global,
+    number: u32,
+    nodes: &'a [ANode],
+    index: Option<&'a Index>,
+    sets: &TsTree,
+) -> Result<LentRow<'a>, AllocError>
+    requires first { 1 ≤ number }
+    requires index { IsRowIndex (option_map (λ x. index_view x.now) index)
+        (map node_view nodes.now) }
+    requires over { IsOver (ts_view sets.now) (map node_stamp (map node_view nodes.now)) }
+    ensures { IfOk result (λ row. lent_row_view row
+        ≡ content
+        (attrs_among (read_row number (number ∷ []) (nodes_view nodes.now)))
+        (items_among (read_row number (number ∷ []) (nodes_view nodes.now)))) }
+{
+    let places = places_in(alloc, number, sets)?;
     // Few of them may be items, so these are counted before room is taken.
-    let mut items = Vec::with_capacity(alloc, count_items(nodes, &places))?;
+    let count = count_items(nodes, &places);
+    let mut attrs = Vec::with_capacity(alloc, places.len() - count)?;
+    let mut items = Vec::with_capacity(alloc, count)?;
     for place in &places {
         let place = *place as usize;
         let node = &nodes[place];
@@ -150,6 +177,56 @@ fn count_items(nodes: &[ANode], places: &[u32]) -> usize
         }
     }
     count
+}
+
+/// The same, where each node is looked at.
+#[cycle(lend)]
+fn lend_each<'a>(
+    alloc: Global,
+    number: u32,
+    nodes: &'a [ANode],
+    index: Option<&'a Index>,
+) -> Result<LentRow<'a>, AllocError>
+    requires first { 1 ≤ number }
+    requires index { IsRowIndex (option_map (λ x. index_view x.now) index)
+        (map node_view nodes.now) }
+    ensures { IfOk result (λ row. lent_row_view row
+        ≡ content
+        (attrs_among (read_row number (number ∷ []) (nodes_view nodes.now)))
+        (items_among (read_row number (number ∷ []) (nodes_view nodes.now)))) }
+{
+    let (names, tags) = count_kids(number, nodes);
+    let mut attrs = Vec::with_capacity(alloc, names)?;
+    let mut items = Vec::with_capacity(alloc, tags)?;
+    let mut place = 0;
+    for node in nodes {
+        if has_version(node.stamp(), number) {
+            let within = beside(index, place);
+            if node.label().name.is_tag() {
+                items.push(lend_node(alloc, number, node, within)?)?;
+            } else if let Some(attr) = lend_attr(alloc, number, node, within)? {
+                attrs.push(attr)?;
+            }
+        }
+        place += 1;
+    }
+    Ok(LentRow { attrs, items })
+}
+
+/// How many of the nodes that the version has are attributes, and how many are items.
+fn count_kids(number: u32, nodes: &[ANode]) -> (usize, usize) {
+    let mut names = 0;
+    let mut tags = 0;
+    for node in nodes {
+        if has_version(node.stamp(), number) {
+            if node.label().name.is_tag() {
+                tags += 1;
+            } else {
+                names += 1;
+            }
+        }
+    }
+    (names, tags)
 }
 
 /// The element of that tag with the body.

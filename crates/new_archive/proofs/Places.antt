@@ -1,9 +1,11 @@
 -- What a search by halving tells of a row.
-use Rattle.std.proofs.Common.{◌≡◌, ℕ, zero, suc, ◌+◌, ◌<◌, IsTrue, List, [], ◌∷◌, map, length, get_or, Result, Ok, Err, refl, ap, sym, subst, ◌∙◌, arith}
+use Rattle.std.proofs.Common.{◌≡◌, ℕ, zero, suc, ◌+◌, ◌<◌, ◌≤◌, IsTrue, List, [], ◌∷◌, map, length, get_or, Result, Ok, Err, refl, ap, sym, subst, ◌∙◌, arith}
 use Rattle.std.proofs.lemmas.List.{get_or-map, length-map}
 use Rattle.std.proofs.lemmas.List.Sorted.{searchable_from_sorted}
 use Rattle.std.specs.List.Sorted.{IsSortedBy, IsSearchInRange, IsBinarySearchResult}
-use Rattle.std.specs.Ordering.{is_lt, is_eq}
+use Rattle.std.specs.List.{AllByRecursion}
+use Rattle.std.specs.Ordering.{is_lt, is_eq, ordering_reverse}
+use Rattle.std.specs.declared.cmp.Ordering.TheVariants.{Less, Greater}
 use Rattle.keyed_tree.specs.Data.{PlainLabel}
 use Rattle.keyed_tree.specs.Laws.{label_cmp_total, label_cmp_exact, label_cmp-is_eq}
 use Rattle.keyed_tree.specs.Lists.{Ascends}
@@ -48,3 +50,26 @@ module _ {X : Type 0} (view : X → PlainFull) where
   first_place l xs x low first e =
       let many : length (map view xs) ≡ length xs = length-map xs view in
       (omega arith, λ d. label_at xs 0 x d low ∙ ap name (sym first) ∙ (label_cmp-is_eq (name x) l).0 e)
+
+  above_each : (l m : PlainLabel) (ks : List PlainFull) → label_cmp m l ≡ Greater → AllByRecursion (λ y. label_cmp m y ≡ Less) (map full_label ks) → (j : ℕ) (d : PlainFull) → j < length ks → label_cmp (full_label (get_or ks j d)) l ≡ Greater
+  above_each l m [] e h j d low = absurd (omega (arith, low))
+  above_each l m (k ∷ ks) e h zero d low =
+      let below : label_cmp l m ≡ Less = label_cmp_total.antisymm l m ∙ ap ordering_reverse e in
+      label_cmp_total.antisymm (full_label k) l ∙ ap ordering_reverse (label_cmp_total.trans l m (full_label k) below h.0)
+  above_each l m (k ∷ ks) e h (suc j) d low = above_each l m ks e h.1 j d (omega (arith, low))
+
+  -- the first node is above the label, and so are all behind it
+  pub first_above : (l : PlainLabel) (xs : List X) (x : X) → 0 < length xs → x ≡ get_or xs 0 x → Ascends label_cmp (map full_label (map view xs)) → label_cmp (name x) l ≡ Greater → IsPlaceOf l (map view xs) (Err 0)
+  first_above l [] x low first up e = absurd (omega (arith, low))
+  first_above l (y ∷ ys) x low first up e = (omega arith, (λ j d under. absurd (omega (arith, under))), go)
+    where
+      top : label_cmp (name y) l ≡ Greater
+      top = ap (λ z. label_cmp (name z) l) (sym first) ∙ e
+      go : (j : ℕ) (d : PlainFull) → 0 ≤ j → j < length (map view (y ∷ ys)) → label_cmp (full_label (get_or (map view (y ∷ ys)) j d)) l ≡ Greater
+      go zero d from under = top
+      go (suc j) d from under = above_each l (name y) (map view ys) top up.0 j d (omega (arith, under))
+
+  -- there is none
+  pub none_place : (l : PlainLabel) (xs : List X) → xs ≡ [] → IsPlaceOf l (map view xs) (Err 0)
+  none_place l [] e = (omega arith, (λ j d under. absurd (omega (arith, under))), λ j d from under. absurd (omega (arith, under)))
+  none_place l (x ∷ xs) e = absurd (let many : length (x ∷ xs) ≡ 0 = ap length e in omega (arith, many))

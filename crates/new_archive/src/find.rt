@@ -13,14 +13,18 @@ use keyed_parts::Kid;
 use std::cmp::Ordering;
 
 // The place of the node that has the kid's label, or the place where it would stand. Where it is
-// the first node, it looks at no other.
+// the first node, or none before that, it looks at no other.
 pub fn place_of(row: &[NewNode], kid: Kid<'_, '_, '_>) -> Result<usize, usize>
     requires { Ascends label_cmp (map full_label (row_view row.now)) }
     ensures { IsPlaceOf (label_of (kid_view kid.entry)) (row_view row.now) result }
 {
-    match row.first() {
-        Some(node) if order(node, kid).is_eq() => Ok(0),
-        _ => halve(row, kid),
+    let Some(node) = row.first() else {
+        return Err(0);
+    };
+    match order(node, kid) {
+        Ordering::Equal => Ok(0),
+        Ordering::Greater => Err(0),
+        Ordering::Less => halve(row, kid),
     }
 }
 

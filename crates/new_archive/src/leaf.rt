@@ -1,5 +1,5 @@
 // The alternatives of a leaf, changed in place.
-ghost use Rattle.std.specs.Prelude.{◌≡◌, ◌≤◌, ◌<◌, ◌++◌, ◌∷◌, [], IfOk, IfSome, OnOk, length, map};
+ghost use Rattle.std.specs.Prelude.{◌≡◌, ◌≤◌, ◌<◌, ◌++◌, ◌∷◌, [], IfOk, OnOk, length, map};
 ghost use Rattle.std.specs.List.{AllByRecursion};
 ghost use Rattle.std.specs.Ordering.{is_eq};
 ghost use Rattle.version_set.specs.Members.{with_last};
@@ -8,7 +8,7 @@ ghost use Rattle.version_set.specs.View.{pairs_of};
 ghost use Rattle.jsonml_tree.specs.Lists.{AllDiffer};
 ghost use Rattle.keyed_tree.specs.LentView.{lent_val_view};
 ghost use Rattle.keyed_tree.specs.Order.{key_cmp};
-ghost use Rattle.spelled_archive.specs.View.{kept_view, spelled_view};
+ghost use Rattle.spelled_archive.specs.View.{kept_view};
 ghost use Rattle.new_archive.specs.Added.{added_alts, alone};
 ghost use Rattle.new_archive.specs.AltView.{alt_view};
 ghost use Rattle.new_archive.specs.Covered.{AreCovered, kept_bodies};
@@ -19,10 +19,9 @@ ghost use Rattle.new_archive.specs.View.{alts_view};
 
 use crate::bodies::Alts;
 use crate::node::NewAlt;
-use jsonml_tree::LentContent;
 use keyed_tree::LentVal;
 use record_parts::{SpellFault, put_lent_value};
-use spelled_archive::{KeptBody, Spelled};
+use spelled_archive::KeptBody;
 use std::alloc::{AllocError, Global};
 use std::collections::BTreeMap;
 use version_set::VersionSet;
@@ -72,7 +71,7 @@ fn push_new(alloc: Global, n: u32, body: LentVal<'_, '_>, alts: &mut Alts) -> Re
     ensures { OnOk result (alts_view alts.new ≡ alts_view alts.old
         ++ record { numbers = alone n; body = lent_val_view body.entry } ∷ []) }
 {
-    let body = keep_body(alloc, body)?;
+    let body = KeptBody::of(alloc, body)?;
     let set = VersionSet::single(alloc, n);
     alts.push(alloc, NewAlt { set, body })
 }
@@ -130,26 +129,6 @@ fn scan(body: LentVal<'_, '_>, alts: &[NewAlt]) -> Option<usize>
         at += 1;
     }
     None
-}
-
-// The body as it is kept.
-fn keep_body(alloc: Global, body: LentVal<'_, '_>) -> Result<KeptBody, AllocError>
-    ensures { IfOk result (λ k. kept_view k ≡ lent_val_view body.entry) }
-{
-    match spell_heavy(alloc, body)? {
-        Some(spelled) => Ok(KeptBody::Spelled(spelled)),
-        None => Ok(KeptBody::Own(body.own(alloc)?)),
-    }
-}
-
-// The body, spelled, if it is heavy.
-fn spell_heavy(alloc: Global, body: LentVal<'_, '_>) -> Result<Option<Spelled>, AllocError>
-    ensures { IfOk result (λ o. IfSome o (λ s. spelled_view s ≡ lent_val_view body.entry)) }
-{
-    match body {
-        LentVal::Content(LentContent::Row(row)) => Spelled::of_row(alloc, row),
-        _ => Ok(None),
-    }
 }
 
 // Whether an alternative has the body. It takes no memory.

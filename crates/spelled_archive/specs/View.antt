@@ -18,7 +18,7 @@ abbrev pub spelled_view : Spelled → PlainKey
 spelled_view s = value_in (whole value_at s.bytes.items)
 
 abbrev pub kept_view : KeptBody → PlainKey
-kept_view (kept.Own b) = key_view b
+kept_view (kept.Own b) = key_view b.value
 kept_view (kept.Spelled s) = spelled_view s
 
 abbrev pub alt_view : Alt → PlainAlt

@@ -1,11 +1,11 @@
 // The bodies of leaves.
 ghost use Rattle.record_parts.specs.Whole.{IsValueBytes};
 
-use jsonml_tree::{LentContent, LentRow};
-use keyed_tree::{Body, KeyVal, LentVal};
+use jsonml_tree::{LentContent, LentScalar};
+use keyed_tree::{Body, LentVal};
 use record_parts::{
-    BodyView, SpellFault, is_value, lend_body, parts_are_of_shape_and_fit,
-    parts_are_read_as_spelled, put_lent_value, put_value,
+    BodyView, SpellFault, lend_body, parts_are_of_shape_and_fit, parts_are_read_as_spelled,
+    put_lent_value,
 };
 use std::alloc::{AllocError, Global};
 
@@ -16,46 +16,36 @@ pub struct Spelled {
     ghost valid: { IsValueBytes bytes.items },
 }
 
-/// A body of a leaf: a light one as it is, a heavy one as its encoding.
+/// A body of a leaf, as its encoding.
 ///
-/// A content of 16 items or more is heavy, if it has an encoding.
+/// A body that has no encoding is kept as it is, but no file holds one.
 #[derive(Drop)]
 pub enum KeptBody {
-    Own(Body),
+    Own(Box<Body>),
     Spelled(Spelled),
 }
 
-/// A content of so many items is heavy.
-const HEAVY: usize = 16;
-
 impl Spelled {
-    ghost use Rattle.std.specs.Prelude.{◌≡◌, ◌<◌, ◌⊎◌, IfOk, IfSome, IsNone, false, length};
+    ghost use Rattle.std.specs.Prelude.{◌≡◌, IfOk, IfSome, IsNone, false};
     ghost use Rattle.std.specs.Ordering.{is_eq};
-    ghost use Rattle.jsonml_tree.specs.LentView.{lent_row_view};
-    ghost use Rattle.keyed_tree.specs.Data.{inside};
     ghost use Rattle.keyed_tree.specs.LentView.{lent_val_view};
     ghost use Rattle.keyed_tree.specs.Order.{key_cmp};
-    ghost use Rattle.keyed_tree.specs.View.{key_view};
     ghost use Rattle.xa_fields.specs.Reading.{whole};
     ghost use Rattle.record_parts.specs.Checks.{value_fits};
     ghost use Rattle.record_parts.specs.Reading.{value_at};
     ghost use Rattle.record_parts.specs.ShownViews.{shown_body, value_in};
     ghost use Rattle.spelled_archive.specs.View.{spelled_view};
 
-    /// The content, if it is heavy and has an encoding. Each byte is written once.
-    pub fn of_row(alloc: Global, row: &LentRow<'_>) -> Result<Option<Spelled>, AllocError>
-        ensures some { IfOk result (λ o. IfSome o
-            (λ s. spelled_view s ≡ inside (lent_row_view row.now))) }
-        ensures none { IfOk result (λ o. IsNone o → (length row.now.items.items < 16)
-            ⊎ (value_fits (inside (lent_row_view row.now)) ≡ false)) }
+    /// The body that a document lends, if it has an encoding. Each byte is written once.
+    pub fn of(alloc: Global, body: LentVal<'_, '_>) -> Result<Option<Spelled>, AllocError>
+        ensures some { IfOk result (λ o. IfSome o (λ s. spelled_view s ≡ lent_val_view body.entry)) }
+        ensures none { IfOk result (λ o. IsNone o → value_fits (lent_val_view body.entry) ≡ false) }
     {
-        if row.items.len() < HEAVY {
-            return Ok(None);
-        }
+        // Laws, for the proofs of `some` and of what `of_bytes` requires.
         parts_are_of_shape_and_fit();
         parts_are_read_as_spelled();
-        let mut bytes = Vec::new(alloc);
-        match put_lent_value(&mut bytes, LentVal::Content(LentContent::Row(row))) {
+        let mut bytes = Vec::with_capacity(alloc, room_of(body))?;
+        match put_lent_value(&mut bytes, body) {
             Ok(()) => Ok(Some(Spelled::of_bytes(bytes))),
             Err(SpellFault::TooLong) => Ok(None),
             Err(SpellFault::Memory) => Err(AllocError),
@@ -68,23 +58,6 @@ impl Spelled {
         ensures { spelled_view result ≡ value_in (whole value_at bytes.items) }
     {
         Spelled { bytes }
-    }
-
-    // The body, if it is heavy and has an encoding.
-    fn of_own(alloc: Global, body: &Body) -> Result<Option<Spelled>, AllocError>
-        ensures { IfOk result (λ o. IfSome o (λ s. spelled_view s ≡ key_view body.now)) }
-    {
-        if !is_heavy(body) {
-            return Ok(None);
-        }
-        if !is_value(body) {
-            return Ok(None);
-        }
-        parts_are_of_shape_and_fit();
-        parts_are_read_as_spelled();
-        let mut bytes = Vec::new(alloc);
-        put_value(&mut bytes, body)?;
-        Ok(Some(Spelled::of_bytes(bytes)))
     }
 
     /// The body that it spells, lent.
@@ -104,23 +77,28 @@ impl Spelled {
 
 impl KeptBody {
     ghost use Rattle.std.specs.Prelude.{◌≡◌, IfOk};
-    ghost use Rattle.keyed_tree.specs.View.{key_view};
+    ghost use Rattle.keyed_tree.specs.LentView.{lent_val_view};
     ghost use Rattle.spelled_archive.specs.View.{kept_view};
 
-    /// The body, which is spelled if it is heavy and has an encoding.
-    pub fn of(alloc: Global, body: Body) -> Result<KeptBody, AllocError>
-        ensures { IfOk result (λ k. kept_view k ≡ key_view body) }
+    /// A body that a document lends, as it is kept.
+    pub fn of(alloc: Global, body: LentVal<'_, '_>) -> Result<KeptBody, AllocError>
+        ensures { IfOk result (λ k. kept_view k ≡ lent_val_view body.entry) }
     {
-        match Spelled::of_own(alloc, &body)? {
+        match Spelled::of(alloc, body)? {
             Some(spelled) => Ok(KeptBody::Spelled(spelled)),
-            None => Ok(KeptBody::Own(body)),
+            None => {
+                let own = body.own(alloc)?;
+                Ok(KeptBody::Own(Box::new(alloc, own)?))
+            }
         }
     }
 }
 
-fn is_heavy(body: &Body) -> bool {
+// How many bytes a body of one text takes. Room for a row is taken where it is spelled.
+fn room_of(body: LentVal<'_, '_>) -> usize {
     match body {
-        KeyVal::Content(content) => content.items.len() >= HEAVY,
-        KeyVal::Scalar(_) => false,
+        LentVal::Scalar(LentScalar::Text(text)) => text.len().saturating_add(6),
+        LentVal::Content(LentContent::Text(text)) => text.len().saturating_add(14),
+        _ => 10,
     }
 }

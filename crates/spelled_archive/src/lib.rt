@@ -1,4 +1,4 @@
-//! Archives in memory whose heavy bodies are kept as their encodings.
+//! Archives in memory whose bodies are kept as their encodings.
 #![tactic(auto)]
 
 mod body;

@@ -6,20 +6,20 @@ use Rattle.jsonml_tree.specs.LentAttrs.{lent_attr_view}
 use Rattle.jsonml_tree.specs.LentView.{lent_tree_view}
 use Rattle.keyed_tree.specs.Plain.{attrs_among, items_among}
 use Rattle.keyed_tree.specs.View.{label_view}
-use Rattle.archive_tree.specs.Data.{nodes_from}
+use Rattle.archive_tree.specs.Data.{node_stamp, nodes_from}
 use Rattle.archive_tree.specs.Read.{read_row}
 use Rattle.archive_tree.specs.View.{node_view, nodes_view, stamp_view}
 use Rattle.jsonml_tree.proofs.LentTrees.{lent_trees}
 use Rattle.archive_tree.proofs.NodeViews.{node_view-Inner, nodes}
-use Rattle.archive_rekey.specs.Index.{IsRowIndex, index_view}
+use Rattle.archive_rekey.specs.Index.{IsRowIndex, index_view, is_in}
 use Rattle.archive_rekey.proofs.Below.{body_below, row_below}
-use Rattle.archive_rekey.proofs.IndexLemmas.{all-places, beside-at, inner-row, left-first, left-rest, node-at, picked, place-there, row-left, row-picked, within-nodes}
+use Rattle.archive_rekey.proofs.IndexLemmas.{all-places, beside-at, inner-row, item-at, left-first, left-rest, node-at, picked, place-there, row-left, row-next, row-picked, within-nodes}
 use Rattle.archive_rekey.proofs.LentRows.{row_of}
 use Rattle.archive_rekey.proofs.Sizes.{node_size, nodes_size, size-at}
 use Rattle.archive_rekey.proofs.lend.+lend.Goals as goal
 
-pub lend_row-returns : goal.lend_row-returns
-lend_row-returns t c =
+pub lend_found-returns : goal.lend_found-returns
+lend_found-returns t c =
     let l = c.loop-place in
     let kids = read_row c.args.number (c.args.number ∷ []) (nodes_view c.args.nodes.now) in
     let attrs : attrs_among kids ≡ map lent_attr_view l.attrs.items = grind (arith, common_steps) in
@@ -42,12 +42,12 @@ lend_node-returns-in_ok-row-in-Inner t c = grind (arith, nodes, lent_trees, row_
 pub lend_node-returns-in_ok-body-in-Leaf : goal.lend_node-returns-in_ok-body-in-Leaf
 lend_node-returns-in_ok-body-in-Leaf t c = grind (arith, nodes, lent_trees, body_below)
 
-pub lend_row-loop-place-init : goal.lend_row-loop-place-init
-lend_row-loop-place-init t c =
+pub lend_found-loop-place-init : goal.lend_found-loop-place-init
+lend_found-loop-place-init t c =
     let n = c.args.number in
     let ks = map node_view c.args.nodes.now in
     let is = c.deref-place-items.result.now in
-    let e = c.deref-place-items.ensures.value ∙ c.in_ok-places.ensures in
+    let e = c.deref-place-items.ensures.value ∙ c.in_ok-places.ensures (map node_stamp ks) c.requires.over in
     let row = row-picked n ks is e in
     record {
       left = all-places n ks is e;
@@ -55,8 +55,8 @@ lend_row-loop-place-init t c =
       items = ap (λ z. list_of (items_among z)) row ∙ ap (λ z. map lent_tree_view z ++ list_of (items_among (read_row n (n ∷ []) (nodes_from (picked ks is))))) (sym c.in_ok-items.ensures.items);
     }
 
-pub lend_row-lend_node-requires : goal.lend_row-lend_node-requires
-lend_row-lend_node-requires t c =
+pub lend_found-lend_node-requires : goal.lend_found-lend_node-requires
+lend_found-lend_node-requires t c =
     let n = c.args.number in
     let nodes = c.args.nodes.now in
     let ks = map node_view nodes in
@@ -71,8 +71,8 @@ lend_row-lend_node-requires t c =
     let d = c.decreases in
     (omega (arith, size, d), (c.requires.first, (there, index)))
 
-pub lend_row-lend_attr-requires-clause-there : goal.lend_row-lend_attr-requires-clause-there
-lend_row-lend_attr-requires-clause-there t c =
+pub lend_found-lend_attr-requires-clause-there : goal.lend_found-lend_attr-requires-clause-there
+lend_found-lend_attr-requires-clause-there t c =
     let n = c.args.number in
     let ks = map node_view c.args.nodes.now in
     let is = c.deref-place-items.result.now in
@@ -80,8 +80,8 @@ lend_row-lend_attr-requires-clause-there t c =
     let here = left-first n ks is c.loop-place.place-index 0 c.loop-place-test.true c.loop-place.invariant.left in
     place-there n ks (get_or is c.loop-place.place-index 0) (node_view k) (node-at n c.args.nodes.now (get_or is c.loop-place.place-index 0) k c.index-nodes-place.is here) here
 
-pub lend_row-lend_attr-requires-clause-index : goal.lend_row-lend_attr-requires-clause-index
-lend_row-lend_attr-requires-clause-index t c =
+pub lend_found-lend_attr-requires-clause-index : goal.lend_found-lend_attr-requires-clause-index
+lend_found-lend_attr-requires-clause-index t c =
     let n = c.args.number in
     let ks = map node_view c.args.nodes.now in
     let is = c.deref-place-items.result.now in
@@ -89,8 +89,8 @@ lend_row-lend_attr-requires-clause-index t c =
     let here = left-first n ks is c.loop-place.place-index 0 c.loop-place-test.true c.loop-place.invariant.left in
     beside-at _ (node_view k) (option_map (λ x. index_view x.now) c.beside-within.result) (node-at n c.args.nodes.now (get_or is c.loop-place.place-index 0) k c.index-nodes-place.is here) (c.beside-within.ensures ks c.requires.index)
 
-pub lend_row-loop-place-preserved : goal.lend_row-loop-place-preserved
-lend_row-loop-place-preserved t c =
+pub lend_found-loop-place-preserved : goal.lend_found-loop-place-preserved
+lend_found-loop-place-preserved t c =
     let n = c.args.number in
     let ks = map node_view c.args.nodes.now in
     let is = c.deref-place-items.result.now in
@@ -103,6 +103,50 @@ lend_row-loop-place-preserved t c =
     let items = c.loop-place.invariant.items ∙ ap (λ z. map lent_tree_view c.loop-place.items.items ++ list_of (items_among z)) row in
     record {
       left = left-rest n ks is i 0 c.loop-place-test.true c.loop-place.invariant.left;
+      attrs = grind (arith, common_steps, attrs);
+      items = grind (arith, common_steps, items);
+    }
+
+pub lend_each-returns : goal.lend_each-returns
+lend_each-returns t c =
+    let l = c.loop-node in
+    let kids = read_row c.args.number (c.args.number ∷ []) (nodes_view c.args.nodes.now) in
+    let attrs : attrs_among kids ≡ map lent_attr_view l.attrs.items = grind (arith, common_steps) in
+    let items : list_of (items_among kids) ≡ map lent_tree_view l.items.items = grind (arith, common_steps) in
+    row_of _ (attrs_among kids) (items_among kids) attrs items
+
+pub lend_each-lend_node-requires : goal.lend_each-lend_node-requires
+lend_each-lend_node-requires t c =
+    let n = c.args.number in
+    let nodes = c.args.nodes.now in
+    let l = c.loop-node in
+    let k = c.node-item.result in
+    let at = item-at nodes l.place l.node-index k l.invariant.at c.loop-node-test.true c.node-item.is in
+    let there = ap (is_in n) (sym c.stamp.ensures) ∙ sym c.has_version.ensures ∙ c.if-has_version.true in
+    let index = beside-at _ (node_view k) (option_map (λ x. index_view x.now) c.beside-within.result) at (c.beside-within.ensures (map node_view nodes) c.requires.index) in
+    let size = size-at nodes l.node-index k c.loop-node-test.true c.node-item.is in
+    let d = c.decreases in
+    (omega (arith, size, d), (c.requires.first, (there, index)))
+
+pub lend_each-lend_attr-requires-clause-there : goal.lend_each-lend_attr-requires-clause-there
+lend_each-lend_attr-requires-clause-there t c =
+    ap (is_in c.args.number) (sym c.stamp.ensures) ∙ sym c.has_version.ensures ∙ c.if-has_version.true
+
+pub lend_each-lend_attr-requires-clause-index : goal.lend_each-lend_attr-requires-clause-index
+lend_each-lend_attr-requires-clause-index t c =
+    let nodes = c.args.nodes.now in
+    let l = c.loop-node in
+    let k = c.node-item.result in
+    beside-at _ (node_view k) (option_map (λ x. index_view x.now) c.beside-within.result) (item-at nodes l.place l.node-index k l.invariant.at c.loop-node-test.true c.node-item.is) (c.beside-within.ensures (map node_view nodes) c.requires.index)
+
+pub lend_each-loop-node-preserved : goal.lend_each-loop-node-preserved
+lend_each-loop-node-preserved t c =
+    let l = c.loop-node in
+    let row = row-next c.args.number c.args.nodes.now l.node-index c.node-item.result c.loop-node-test.true c.node-item.is in
+    let attrs = l.invariant.attrs ∙ ap (λ z. map lent_attr_view l.attrs.items ++ attrs_among z) row in
+    let items = l.invariant.items ∙ ap (λ z. map lent_tree_view l.items.items ++ list_of (items_among z)) row in
+    record {
+      at = ap (λ i. i + 1) l.invariant.at;
       attrs = grind (arith, common_steps, attrs);
       items = grind (arith, common_steps, items);
     }
