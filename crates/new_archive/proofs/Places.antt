@@ -1,13 +1,13 @@
 -- What a search by halving tells of a row.
-use Rattle.std.proofs.Common.{◌≡◌, ℕ, zero, suc, ◌+◌, ◌<◌, ◌≤◌, IsTrue, List, [], ◌∷◌, map, length, get_or, Result, Ok, Err, refl, ap, sym, subst, ◌∙◌, arith}
+use Rattle.std.proofs.Common.{◌≡◌, ℕ, zero, suc, ◌+◌, ◌<◌, ◌≤◌, List, [], ◌∷◌, map, length, slice_get, get_or, None, Result, Ok, Err, refl, ap, sym, subst, ◌∙◌, arith}
 use Rattle.std.proofs.lemmas.List.{get_or-map, length-map}
 use Rattle.std.proofs.lemmas.List.Sorted.{searchable_from_sorted}
 use Rattle.std.specs.List.Sorted.{IsSortedBy, IsSearchInRange, IsBinarySearchResult}
 use Rattle.std.specs.List.{AllByRecursion}
-use Rattle.std.specs.Ordering.{is_lt, is_eq, ordering_reverse}
-use Rattle.std.specs.declared.cmp.Ordering.TheVariants.{Less, Greater}
+use Rattle.std.specs.Ordering.{is_lt, ordering_reverse}
+use Rattle.std.specs.declared.cmp.Ordering.TheVariants.{Less, Equal, Greater}
 use Rattle.keyed_tree.specs.Data.{PlainLabel}
-use Rattle.keyed_tree.specs.Laws.{label_cmp_total, label_cmp_exact, label_cmp-is_eq}
+use Rattle.keyed_tree.specs.Laws.{label_cmp_total, label_cmp_exact}
 use Rattle.keyed_tree.specs.Lists.{Ascends}
 use Rattle.keyed_tree.specs.Order.{label_cmp}
 use Rattle.new_archive.specs.Full.{PlainFull, full_label}
@@ -46,10 +46,10 @@ module _ {X : Type 0} (view : X → PlainFull) where
       )
 
   -- the first node has the label
-  pub first_place : (l : PlainLabel) (xs : List X) (x : X) → 0 < length xs → x ≡ get_or xs 0 x → IsTrue (is_eq (label_cmp (name x) l)) → IsPlaceOf l (map view xs) (Ok 0)
+  pub first_place : (l : PlainLabel) (xs : List X) (x : X) → 0 < length xs → x ≡ get_or xs 0 x → label_cmp (name x) l ≡ Equal → IsPlaceOf l (map view xs) (Ok 0)
   first_place l xs x low first e =
       let many : length (map view xs) ≡ length xs = length-map xs view in
-      (omega arith, λ d. label_at xs 0 x d low ∙ ap name (sym first) ∙ (label_cmp-is_eq (name x) l).0 e)
+      (omega arith, λ d. label_at xs 0 x d low ∙ ap name (sym first) ∙ label_cmp_exact (name x) l e)
 
   above_each : (l m : PlainLabel) (ks : List PlainFull) → label_cmp m l ≡ Greater → AllByRecursion (λ y. label_cmp m y ≡ Less) (map full_label ks) → (j : ℕ) (d : PlainFull) → j < length ks → label_cmp (full_label (get_or ks j d)) l ≡ Greater
   above_each l m [] e h j d low = absurd (omega (arith, low))
@@ -70,6 +70,6 @@ module _ {X : Type 0} (view : X → PlainFull) where
       go (suc j) d from under = above_each l (name y) (map view ys) top up.0 j d (omega (arith, under))
 
   -- there is none
-  pub none_place : (l : PlainLabel) (xs : List X) → xs ≡ [] → IsPlaceOf l (map view xs) (Err 0)
+  pub none_place : (l : PlainLabel) (xs : List X) → slice_get xs 0 ≡ None → IsPlaceOf l (map view xs) (Err 0)
   none_place l [] e = (omega arith, (λ j d under. absurd (omega (arith, under))), λ j d from under. absurd (omega (arith, under)))
-  none_place l (x ∷ xs) e = absurd (let many : length (x ∷ xs) ≡ 0 = ap length e in omega (arith, many))
+  none_place l (x ∷ xs) e = cc

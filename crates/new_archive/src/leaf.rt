@@ -99,21 +99,11 @@ fn look_up(
     let mut bytes = Vec::new(alloc);
     match put_lent_value(&mut bytes, body) {
         Ok(()) => match places.get(bytes.as_slice()) {
-            Some(place) => Ok(at_place(body, alts, *place)),
+            Some(place) => Ok(Some(*place)),
             None => Ok(None),
         },
         Err(SpellFault::TooLong) => Ok(scan(body, alts)),
         Err(SpellFault::Memory) => Err(AllocError),
-    }
-}
-
-// The same, where it stands at that place.
-fn at_place(body: LentVal<'_, '_>, alts: &[NewAlt], place: usize) -> Option<usize>
-    ensures { IsAltOf (lent_val_view body.entry) (map alt_view alts.now) result }
-{
-    match alts.get(place) {
-        Some(alt) if is_same(body, &alt.body) => Some(place),
-        _ => scan(body, alts),
     }
 }
 

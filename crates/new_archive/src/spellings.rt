@@ -1,11 +1,8 @@
 // The places of bodies, by their encodings.
-ghost use Rattle.std.specs.Prelude.{◌≡◌, ◌++◌, ◌∷◌, [], List, IfOk, IfSome, OnOk, true};
-ghost use Rattle.keyed_tree.specs.Data.{PlainKey};
+ghost use Rattle.std.specs.Prelude.{◌++◌, ◌∷◌, [], IfOk, IfSome, OnOk};
 ghost use Rattle.keyed_tree.specs.View.{key_view};
-ghost use Rattle.record_parts.specs.Checks.{value_fits};
-ghost use Rattle.record_parts.specs.Spelling.{value_bytes};
 ghost use Rattle.spelled_archive.specs.View.{kept_view};
-ghost use Rattle.new_archive.specs.Covered.{AreCovered, Grows, IsKey, IsSpelling, kept_bodies};
+ghost use Rattle.new_archive.specs.Covered.{AreCovered, IsAdded, IsSpelling, kept_bodies};
 
 use crate::node::NewAlt;
 use keyed_tree::Body;
@@ -47,8 +44,8 @@ fn with_place(
     body: &KeptBody,
     place: usize,
 ) -> Result<Box<BTreeMap<Vec<u8>, usize>>, AllocError>
-    ensures { IfOk result (λ b. (bs : List PlainKey) → AreCovered bs places.value.entries
-        → AreCovered (bs ++ kept_view body.now ∷ []) b.value.entries) }
+    ensures { IfOk result (λ b.
+        IsAdded (kept_view body.now) place places.value.entries b.value.entries) }
 {
     let mut places = places;
     put_place(alloc, &mut places, body, place)?;
@@ -75,9 +72,8 @@ fn put_place(
     body: &KeptBody,
     place: usize,
 ) -> Result<(), AllocError>
-    ensures grows { Grows places.old.entries places.new.entries }
-    ensures put { OnOk result (value_fits (kept_view body.now) ≡ true
-        → IsKey (value_bytes (kept_view body.now)) places.new.entries) }
+    ensures { OnOk result
+        (IsAdded (kept_view body.now) place places.old.entries places.new.entries) }
 {
     match spell_kept(alloc, body)? {
         Some(bytes) => {

@@ -1,7 +1,9 @@
-use Rattle.std.proofs.Common.{sym, subst}
-use Rattle.new_archive.specs.Covered.{IsKey}
-use Rattle.new_archive.proofs.Covers.{grows}
+use Rattle.spelled_archive.specs.View.{kept_view}
+use Rattle.new_archive.proofs.Covers.{added_none, added_some}
 use Rattle.new_archive.proofs.spellings.put_place.Goals as goal
 
-pub returns-in_ok-insert-in-Some-clause-grows : goal.returns-in_ok-insert-in-Some-clause-grows
-returns-in_ok-insert-in-Some-clause-grows c = λ bytes h. subst (λ es. IsKey bytes es) (sym c.in_ok-insert-in-Some.ensures.entries) (grows c.in-Some.bytes c.args.place c.args.places.now.entries bytes h)
+pub returns-in_ok-insert-in-Some : goal.returns-in_ok-insert-in-Some
+returns-in_ok-insert-in-Some c = added_some (kept_view c.args.body.now) c.in-Some.bytes c.args.place c.args.places.now.entries _ c.in_ok-spell_kept.ensures c.in_ok-insert-in-Some.ensures.entries
+
+pub returns-in-None : goal.returns-in-None
+returns-in-None c = added_none (kept_view c.args.body.now) c.args.place c.args.places.now.entries c.in_ok-spell_kept.ensures
