@@ -1,6 +1,6 @@
 -- A map from the encodings of bodies to their places, as bodies come behind others.
 use Rattle.std.proofs.Common.{◌≡◌, ◌≢◌, ℕ, zero, suc, ◌<◌, ◌≤◌, ◌+◌, ◌&&◌, ◌↔◌, Bool, true, false, true≢false, IsTrue, cond, List, [], ◌∷◌, ◌++◌, map, length, take, get_or, set, Option, Some, None, Vec, Global, refl, ap, sym, subst, ◌∙◌, ◌⊎◌, inl, inr, arith}
-use Rattle.std.proofs.lemmas.List.{map-append, take_all}
+use Rattle.std.proofs.lemmas.List.{length-map, map-append, take_all}
 use Rattle.std.proofs.lemmas.Map.Lookups.{exact_bytes}
 use Rattle.std.specs.Option.{ForSome, IfSome, IsSome, is_some}
 use Rattle.std.specs.List.{AllByRecursion}
@@ -67,8 +67,8 @@ added_none b i es none = λ bytes. rw none refl
 
 -- ---- bodies that are found
 
-pub none_covered : AreCovered [] []
-none_covered = record { found = λ b at fits. absurd at; placed = λ bytes i e. absurd (true≢false (sym (ap is_some e))) }
+pub none_covered : (es : Places) → es ≡ [] → AreCovered [] es
+none_covered es none = subst (AreCovered []) (sym none) record { found = λ b at fits. absurd at; placed = λ bytes i e. absurd (true≢false (sym (ap is_some e))) }
 
 has_more : (bs : List PlainKey) (b c : PlainKey) → Has b (bs ++ c ∷ []) → Has b bs ⊎ (c ≡ b)
 has_more [] b c (inl e) = inr e
@@ -165,6 +165,10 @@ kept_long (x ∷ xs) (suc i) low = ap suc (kept_long xs i (omega arith))
 
 pub kept_behind : (xs : List NewAlt) (x : NewAlt) → kept_bodies (xs ++ x ∷ []) ≡ kept_bodies xs ++ kept_view x.body ∷ []
 kept_behind xs x = map-append (λ (a : NewAlt). kept_view a.body) xs (x ∷ [])
+
+-- the place of one behind them is how many they are
+pub covered_behind : (xs : List NewAlt) (c : PlainKey) (es fs : Places) → AreCovered (kept_bodies xs) es → IsAdded c (length xs) es fs → AreCovered (kept_bodies xs ++ c ∷ []) fs
+covered_behind xs c es fs h g = covered_more (kept_bodies xs) c es fs h (subst (λ n. IsAdded c n es fs) (sym (length-map xs (λ (a : NewAlt). kept_view a.body))) g)
 
 -- ---- what is in an option
 

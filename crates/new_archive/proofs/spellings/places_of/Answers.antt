@@ -1,11 +1,11 @@
-use Rattle.std.proofs.Common.{◌≡◌, ◌+◌, length, take, refl, ap, sym, subst, ◌∙◌}
+use Rattle.std.proofs.Common.{rules, ◌≡◌, ◌+◌, length, take, refl, ap, sym, subst, ◌∙◌}
 use Rattle.spelled_archive.specs.View.{kept_view}
 use Rattle.new_archive.specs.Covered.{AreCovered, IsAdded, kept_bodies}
 use Rattle.new_archive.proofs.Covers.{covered_more, kept_all, kept_long, kept_taken, none_covered}
 use Rattle.new_archive.proofs.spellings.places_of.Goals as goal
 
 pub loop-alt-init : goal.loop-alt-init
-loop-alt-init c = record { at = refl; covered = none_covered }
+loop-alt-init c = record { at = refl; covered = none_covered c.new-places.result.entries (search rules) }
 
 pub loop-alt-preserved : goal.loop-alt-preserved
 loop-alt-preserved c =
