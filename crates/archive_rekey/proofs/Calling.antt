@@ -1,5 +1,5 @@
 -- Calls of the writer, one part after the other.
-use Rattle.std.proofs.Common.{◌≡◌, ◌≢◌, ℕ, ◌≤◌, ◌<◌, List, [], ◌∷◌, ◌++◌, length, take, Option, Some, None, Result, Ok, Err, refl, sym, ap, subst, ◌∙◌, arith, append-nil}
+use Rattle.std.proofs.Common.{◌≡◌, ℕ, ◌≤◌, List, [], ◌∷◌, ◌++◌, take, Option, Result, Ok, Err, refl, sym, ap, subst, ◌∙◌, arith, append-nil}
 use Rattle.std.specs.Result.{IsErrAnd, OnOk}
 use Rattle.xa_outside.specs.Causes.{Rose}
 use Rattle.xa_outside.specs.Folder.{Drafts, Files}
@@ -7,12 +7,12 @@ use Rattle.xa_outside.specs.Numbers.{Numbers, IsMeter}
 use Rattle.xa_outside.proofs.DraftLemmas.{Drafts-nil, Drafts-trans}
 use Rattle.record_writer.specs.Calls.{AllFit, Fits, after, after_all, all_appended, appended}
 use Rattle.record_writer.specs.Data.{PlainWriter, WriterCall}
-use Rattle.record_writer.specs.Faults.{Appends, Gains, IfFolder, TooLongUnless}
+use Rattle.record_writer.specs.Faults.{Appends, IfFolder, TooLongUnless}
 use Rattle.record_writer.specs.declared.fault.WriteFault.{WriteFault}
 use Rattle.record_writer.specs.declared.fault.WriteFault.TheVariants.{TooLong, Folder, Memory}
 use Rattle.record_writer.proofs.FitLaws.{fit-both}
 use Rattle.record_writer.proofs.WalkLaws.{after-append, appended-append}
-use Rattle.archive_rekey.specs.Drafted.{Called, Drafted, IfTooLong, OnlyIf}
+use Rattle.archive_rekey.specs.Drafted.{Called, Drafted, OnlyIf}
 
 -- ---- ends
 

@@ -1,5 +1,5 @@
 -- The file of an archive, behind its header.
-use Rattle.std.proofs.Common.{◌≡◌, ◌≢◌, ◌↔◌, ℕ, ◌≤◌, ◌++◌, List, length, Option, Result, Ok, Err, IfErr, refl, sym, ap, subst, ◌∙◌, arith}
+use Rattle.std.proofs.Common.{◌≡◌, ◌≢◌, ◌↔◌, ℕ, ◌≤◌, ◌++◌, List, length, Option, Result, Ok, Err, IfErr, refl, subst, ◌∙◌, arith}
 use Rattle.std.specs.Prelude.{⊤}
 use Rattle.std.specs.Result.{OnOk}
 use Rattle.xa_outside.specs.Folder.{Files}
@@ -10,7 +10,7 @@ use Rattle.keyed_tree.specs.Data.{PlainKeyed}
 use Rattle.archive_tree.specs.Data.{PlainArchive}
 use Rattle.archive_tree.specs.Stands.{ArchiveOf}
 use Rattle.archive_tree.proofs.OneArchive.{one_archive}
-use Rattle.record_format.specs.Files.{FileOf, HasFile, file_bytes, header_bytes}
+use Rattle.record_format.specs.Files.{FileOf, HasFile, header_bytes}
 use Rattle.record_format.specs.Shapes.{IsShaped}
 use Rattle.record_writer.specs.Calls.{AllFit, all_appended, started}
 use Rattle.record_writer.specs.Data.{PlainWriter}

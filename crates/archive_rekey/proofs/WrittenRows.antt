@@ -1,7 +1,7 @@
 -- The rows of a spelled archive, as they are written.
 use Rattle.std.proofs.Common.{◌≡◌, ◌≢◌, ℕ, zero, suc, ◌+◌, ◌<◌, ◌≤◌, List, [], ◌∷◌, ◌++◌, length, map, take, drop, get_or, None, refl, sym, ap, subst, ◌∙◌, append-nil, append_assoc, arith}
 use Rattle.std.specs.List.{AllByRecursion}
-use Rattle.std.proofs.lemmas.List.{drop_more, map-append, take-append-drop, take_all, take_more}
+use Rattle.std.proofs.lemmas.List.{take-append-drop, take_all, take_more}
 use Rattle.keyed_tree.specs.Data.{PlainLabel}
 use Rattle.archive_tree.specs.Data.{PlainAlt, PlainNode, PlainNodes, Stamp, inner_node, leaf_node}
 use Rattle.record_parts.specs.Bounds.{IsStamp}

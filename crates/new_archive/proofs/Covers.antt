@@ -105,16 +105,16 @@ module _ (bs : List PlainKey) (c : PlainKey) (es fs : Places) (h : AreCovered bs
   found_more b at fits = elim (has_more bs b c at) [
     | inl there ↦ subst IsSome (sym (g (value_bytes b))) (some_first (is_it (value_bytes b)) (length bs) _ (h.found b there fits))
     | inr e ↦ (
-      let one : value_fits c ≡ true = ap value_fits e ∙ fits in
-      let two : is_eq (slice_cmp nat_cmp (value_bytes b) (value_bytes c)) ≡ true = (same_bytes (value_bytes b) (value_bytes c)).1 (ap value_bytes (sym e)) in
-      subst IsSome (sym (g (value_bytes b))) (rw one (rw two refl)))
+        let one : value_fits c ≡ true = ap value_fits e ∙ fits in
+        let two : is_eq (slice_cmp nat_cmp (value_bytes b) (value_bytes c)) ≡ true = (same_bytes (value_bytes b) (value_bytes c)).1 (ap value_bytes (sym e)) in
+        subst IsSome (sym (g (value_bytes b))) (rw one (rw two refl)))
   ]
 
   placed_more : (bytes : List ℕ) (i : ℕ) → place_at bytes fs ≡ Some i → IsSpelledAt (bs ++ c ∷ []) bytes i
   placed_more bytes i e = elim (is_it bytes) as (λ t. is_it bytes ≡ t → cond t (Some (length bs)) (place_at bytes es) ≡ Some i → IsSpelledAt (bs ++ c ∷ []) bytes i) [
     | true ↦ λ t f. (
-      let told = both (value_fits c) (is_eq (slice_cmp nat_cmp bytes (value_bytes c))) t in
-      subst (λ k. IsSpelledAt (bs ++ c ∷ []) bytes k) (some_is (length bs) i f) (there_last bytes bs c (told.0, (same_bytes bytes (value_bytes c)).0 told.1)))
+        let told = both (value_fits c) (is_eq (slice_cmp nat_cmp bytes (value_bytes c))) t in
+        subst (λ k. IsSpelledAt (bs ++ c ∷ []) bytes k) (some_is (length bs) i f) (there_last bytes bs c (told.0, (same_bytes bytes (value_bytes c)).0 told.1)))
     | false ↦ λ t f. there_still bytes bs c i (h.placed bytes i f)
   ] refl (sym (g bytes) ∙ e)
 

@@ -65,6 +65,7 @@ module _ {X : Type 0} (view : X → PlainFull) where
     where
       top : label_cmp (name y) l ≡ Greater
       top = ap (λ z. label_cmp (name z) l) (sym first) ∙ e
+
       go : (j : ℕ) (d : PlainFull) → 0 ≤ j → j < length (map view (y ∷ ys)) → label_cmp (full_label (get_or (map view (y ∷ ys)) j d)) l ≡ Greater
       go zero d from under = top
       go (suc j) d from under = above_each l (name y) (map view ys) top up.0 j d (omega (arith, under))

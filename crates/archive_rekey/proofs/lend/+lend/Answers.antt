@@ -1,4 +1,4 @@
-use Rattle.std.proofs.Common.{[], ◌∷◌, ◌≡◌, ◌∙◌, ◌++◌, ◌+◌, map, get_or, ap, sym, subst, arith}
+use Rattle.std.proofs.Common.{[], ◌∷◌, ◌≡◌, ◌∙◌, ◌++◌, ◌+◌, IfSome, map, get_or, ap, sym, subst, arith}
 use Rattle.std.proofs.lemmas.Grind.{common_steps}
 use Rattle.std.specs.Option.{option_map}
 use Rattle.jsonml_tree.specs.Data.{list_of}
@@ -10,8 +10,9 @@ use Rattle.archive_tree.specs.Data.{node_stamp, nodes_from}
 use Rattle.archive_tree.specs.Read.{read_row}
 use Rattle.archive_tree.specs.View.{node_view, nodes_view, stamp_view}
 use Rattle.jsonml_tree.proofs.LentTrees.{lent_trees}
+use Rattle.timestamp_tree.specs.View.{ts_view}
 use Rattle.archive_tree.proofs.NodeViews.{node_view-Inner, nodes}
-use Rattle.archive_rekey.specs.Index.{IsRowIndex, index_view, is_in}
+use Rattle.archive_rekey.specs.Index.{IsOver, IsRowIndex, index_view, is_in}
 use Rattle.archive_rekey.proofs.Below.{body_below, row_below}
 use Rattle.archive_rekey.proofs.IndexLemmas.{all-places, beside-at, inner-row, item-at, left-first, left-rest, node-at, picked, place-there, row-left, row-next, row-picked, within-nodes}
 use Rattle.archive_rekey.proofs.LentRows.{row_of}
@@ -42,6 +43,14 @@ lend_node-returns-in_ok-row-in-Inner t c = grind (arith, nodes, lent_trees, row_
 pub lend_node-returns-in_ok-body-in-Leaf : goal.lend_node-returns-in_ok-body-in-Leaf
 lend_node-returns-in_ok-body-in-Leaf t c = grind (arith, nodes, lent_trees, body_below)
 
+pub lend_row-lend_found-requires : goal.lend_row-lend_found-requires
+lend_row-lend_found-requires t c =
+    let ks = map node_view c.args.nodes.now in
+    let ss = map node_stamp ks in
+    let over = subst (λ o. IfSome o (λ t. IsOver (ts_view t.now) ss)) c.in-Some.is (c.tree_in.ensures ss ks c.requires.index) in
+    let d = c.decreases in
+    (omega (arith, d), (c.requires.first, (c.requires.index, over)))
+
 pub lend_found-loop-place-init : goal.lend_found-loop-place-init
 lend_found-loop-place-init t c =
     let n = c.args.number in
@@ -51,7 +60,7 @@ lend_found-loop-place-init t c =
     let row = row-picked n ks is e in
     record {
       left = all-places n ks is e;
-      attrs = ap attrs_among row ∙ ap (λ z. map lent_attr_view z ++ attrs_among (read_row n (n ∷ []) (nodes_from (picked ks is)))) (sym c.new-attrs.ensures.items);
+      attrs = ap attrs_among row ∙ ap (λ z. map lent_attr_view z ++ attrs_among (read_row n (n ∷ []) (nodes_from (picked ks is)))) (sym c.in_ok-attrs.ensures.items);
       items = ap (λ z. list_of (items_among z)) row ∙ ap (λ z. map lent_tree_view z ++ list_of (items_among (read_row n (n ∷ []) (nodes_from (picked ks is))))) (sym c.in_ok-items.ensures.items);
     }
 

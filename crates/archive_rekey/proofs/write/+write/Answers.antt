@@ -1,4 +1,4 @@
-use Rattle.std.proofs.Common.{rules, ◌≡◌, ◌≢◌, ◌+◌, [], ◌∷◌, ◌++◌, List, map, take, drop, None, Ok, Err, Result, sym, ap, subst, ◌∙◌, append-nil}
+use Rattle.std.proofs.Common.{rules, ◌+◌, [], ◌∷◌, ◌++◌, List, map, take, drop, Ok, Err, sym, ap, ◌∙◌}
 use Rattle.version_set.specs.View.{pairs_of}
 use Rattle.keyed_tree.specs.View.{label_view}
 use Rattle.archive_tree.specs.Data.{inner_node, leaf_node}
@@ -6,7 +6,6 @@ use Rattle.archive_tree.specs.View.{stamp_view}
 use Rattle.record_writer.specs.Data.{call_end_inner, call_end_leaf, call_inner, call_leaf}
 use Rattle.record_writer.specs.View.{writer_view}
 use Rattle.record_writer.specs.Walks.{alt_calls, node_calls, row_calls}
-use Rattle.record_writer.specs.declared.writer.Writer.{Writer}
 use Rattle.spelled_archive.specs.View.{alt_view, node_view, nodes_view}
 use Rattle.spelled_archive.specs.declared.node.Alt.{Alt}
 use Rattle.spelled_archive.specs.declared.node.SNode.{SNode, the_lemmas}

@@ -1,10 +1,9 @@
-use Rattle.std.proofs.Common.{◌≡◌, ◌≢◌, ◌+◌, [], ◌∷◌, ◌++◌, map, take, drop, None, Ok, Err, Result, sym, ap, ◌∙◌, append_assoc}
+use Rattle.std.proofs.Common.{◌+◌, [], ◌∷◌, ◌++◌, map, take, drop, Ok, Err, sym, ap, ◌∙◌, append_assoc}
 use Rattle.archive_tree.specs.View.{stamp_view}
 use Rattle.record_format.specs.Shapes.{IsShapedAlt}
 use Rattle.record_writer.specs.Data.{PlainWriter, call_alt, call_end_leaf}
 use Rattle.record_writer.specs.Given.{given_body}
 use Rattle.record_writer.specs.View.{writer_view}
-use Rattle.record_writer.specs.declared.fault.WriteFault.{WriteFault}
 use Rattle.record_writer.proofs.WalkLaws.{alts-keep}
 use Rattle.spelled_archive.specs.View.{alt_view}
 use Rattle.archive_rekey.specs.Drafted.{Called}

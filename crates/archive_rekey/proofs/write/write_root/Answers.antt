@@ -1,4 +1,4 @@
-use Rattle.std.proofs.Common.{[], ◌∷◌, ◌++◌, Ok, Err, ◌∙◌}
+use Rattle.std.proofs.Common.{[], ◌∷◌, ◌++◌, ◌∙◌}
 use Rattle.version_set.specs.View.{pairs_of}
 use Rattle.record_writer.specs.Calls.{after, after_all}
 use Rattle.record_writer.specs.Data.{call_finish}

@@ -1,4 +1,4 @@
-use Rattle.std.proofs.Common.{◌≡◌, ◌++◌, ◌∷◌, [], ℕ, List, Option, Ok, Err, IfErr, Result, sym, ap, subst, ◌∙◌}
+use Rattle.std.proofs.Common.{◌≡◌, ◌++◌, ◌∷◌, [], ℕ, List, Option, Ok, IfErr, Result, sym, ap, subst, ◌∙◌}
 use Rattle.xa_outside.specs.Folder.{Files}
 use Rattle.xa_outside.specs.Numbers.{Numbers}
 use Rattle.version_set.specs.Members.{upto_pairs}
@@ -8,7 +8,7 @@ use Rattle.key_spec.specs.View.{spec_view}
 use Rattle.archive_tree.specs.Data.{PlainArchive, PlainNodes}
 use Rattle.record_format.specs.Files.{header_bytes}
 use Rattle.record_format.specs.Shapes.{AreShapedNodes}
-use Rattle.record_writer.specs.Calls.{after_all, started}
+use Rattle.record_writer.specs.Calls.{started}
 use Rattle.record_writer.specs.Data.{PlainWriter, call_finish}
 use Rattle.record_writer.specs.Faults.{Appends}
 use Rattle.record_writer.specs.View.{writer_view}
@@ -19,7 +19,6 @@ use Rattle.spelled_archive.specs.View.{nodes_view}
 use Rattle.archive_rekey.specs.Drafted.{Called, Drafted, IfTooLong}
 use Rattle.archive_rekey.proofs.Calling.{at-err, called-as}
 use Rattle.archive_rekey.proofs.WrittenFile.{HasNone, IsFileOf, file-drafted, header-failed, never-long, none-by}
-use Rattle.archive_rekey.proofs.write.write_spelled.Given.{Over}
 use Rattle.archive_rekey.proofs.write.write_spelled.Goals as goal
 
 pub returns-in_err-writer-clause-drafted : goal.returns-in_err-writer-clause-drafted
