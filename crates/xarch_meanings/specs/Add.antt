@@ -133,8 +133,8 @@ pub record OnePass (files : Files) (archive doc : List ℕ) (rules : List PlainR
 --
 -- Whatever the archive is: with a note that is short enough, where what it reads first is not refused, a limit refuses it only where one more call of the
 -- writer does not fit behind the draft and behind calls that fit. Each label and body that a call was given fits its field and takes at most so many bytes,
--- as many as the archive, each label and each body of the document's keyed tree, if those fit their fields; the sets that it was given take at most so many,
--- maybe with the new version. The draft holds no note then.
+-- as many as the archive and 12, each label and each body of the document's keyed tree, if those fit their fields; the sets that it was given take at most
+-- so many, maybe with the new version. The draft holds no note then.
 abbrev pub add_meaning : List ℕ → List ℕ → List ℕ → Meaning
 add_meaning archive doc note = record (plain (in_turn (next_archive archive)) (λ files. AddIs files archive doc note)) {
   May = λ files. GoesOn (short_note note) (λ _. MayOver files archive (GoesOn (add_input files archive doc) (λ _. MayAdd files archive)) (AddsTo files archive doc note));

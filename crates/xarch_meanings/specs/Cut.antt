@@ -53,8 +53,10 @@ pub record IsCutFrom (files : Files) (archive : List ℕ) (i j : ℕ) (h : Conte
   pub from : ArchiveIs files archive whole
   pub is : h ≡ slice i j whole
 
--- It should succeed where the new name is free, the archive has the versions, and these have a file. A limit refuses it only where an `add` would be refused by
--- one, but that each set is what is left of one that takes at most so many bytes. A new archive holds some versions of what another holds, with their notes.
+-- It should succeed where the new name is free, the archive has the versions, and these have a file. Where what it reads first is not refused, a limit
+-- refuses it only where one more call of the writer does not fit behind the draft and behind calls that fit. Each label and body that a call was given takes
+-- at most as many bytes as the archive and 12, and each set is what is left of one that does. A new archive holds some versions of what another holds, with
+-- their notes.
 abbrev pub cut_meaning : List ℕ → List ℕ → ℕ → ℕ → Meaning
 cut_meaning archive new i j = record (on_archive (in_turn (new_archive new)) archive (λ files. cut_input files archive new i j) (λ files. MayMake files archive new) (λ files. CutsFrom files new i j)) {
   Should = λ files. HasArchiveWith files archive (λ c. (cut_checked files new i j (length c.versions) ≡ Ok tt) × HasFile (slice i j c));

@@ -66,8 +66,8 @@ DemoIs files seed count name r = GoesOn (demo_input files count name) (λ _. Mak
 
 -- ---- all that is said of it
 
--- It should succeed where there are not too many documents, the archive's name is free, and the documents have a file. Its words alone refuse too many. A new
--- archive holds the company rules and the generated documents, whose notes are empty.
+-- It should succeed where there are not too many documents, the archive's name is free, and the documents have a file. Its words alone refuse too many. It
+-- prints its counts, so it is not silent. A new archive holds the company rules and the generated documents, whose notes are empty.
 abbrev pub demo_meaning : ℕ → ℕ → List ℕ → Meaning
 demo_meaning seed count name = record (plain (stores (new_archive name)) (λ files. DemoIs files seed count name)) {
   Silent = ⊥;

@@ -56,8 +56,8 @@ abbrev pub path_bytes : PlainArchive → Result (List PlainLabel) Refusal → �
 path_bytes a (Ok path) = probed a path
 path_bytes a (Err e) = 0
 
--- It should succeed where the path spells labels under the archive's rules. Of a sound archive it pulls the header, the tail of 8 bytes, 16 in which it is
--- looked where the notes begin, and what its search looks at.
+-- It should succeed where the path spells labels under the archive's rules. Of a sound archive it pulls no more than the header, the tail of 8 bytes, 16 in
+-- which it is looked where the notes begin, and what its search looks at.
 abbrev pub history_meaning : List ℕ → List ℕ → Meaning
 history_meaning archive path = record (printing archive (λ files. history_input files archive path) (λ files. TellsFrom files path)) {
   Should = λ files. HasArchiveWith files archive (λ c. HasValue (labels_of c.rules path));

@@ -79,10 +79,11 @@ pub record IsJoinedFrom (files : Files) (one two : List ℕ) (h : Contents) : Ty
   pub behind : ArchiveIs files two second
   pub is : h ≡ joined first second
 
--- It should succeed where both archives are sound, the new name is free, they have one specification, there is room for the versions of both, and these have a
--- file. Over any archives it begins its draft before it reads, as long as the folder did not fail, and then reads no more bytes than both have, and 16 of each in
--- which it is looked where the notes begin. A limit refuses it only where an `add` would be refused by one, but that each set is made of one or two that take
--- at most so many bytes. A new archive holds the versions of two others, with their notes.
+-- It should succeed where both archives are sound, the new name is free, they have one specification, there is room for the versions of both, and these have
+-- a file. Over any archives it begins its draft before it reads, as long as the folder did not fail, and then reads no more bytes than both have, and 16 of
+-- each in which it is looked where the notes begin. Where what it reads first is not refused, a limit refuses it only where one more call of the writer does
+-- not fit behind the draft and behind calls that fit. Each label and body that a call was given takes at most as many bytes as the longer archive and 12,
+-- and each set is made of one or two that do. A new archive holds the versions of two others, with their notes.
 abbrev pub join_meaning : List ℕ → List ℕ → List ℕ → Meaning
 join_meaning one two new = record (plain (in_turn (new_archive new)) (λ files. JoinIs files one two new)) {
   May = λ files. MayOverBoth files one two (GoesOn (join_input files one two new) (λ _. MayJoin files one two new)) (JoinsFrom files one two new);

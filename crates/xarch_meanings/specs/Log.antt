@@ -52,8 +52,8 @@ abbrev pub leaf_path_bytes : PlainArchive → Result (List PlainLabel) Refusal �
 leaf_path_bytes a (Ok path) = probed a path + leaf_bytes (node_along a path)
 leaf_path_bytes a (Err e) = 0
 
--- It should succeed where the path ends at the frontier. It may read a leaf when that has been searched for. Of a sound archive it pulls what a `history`
--- does, and the bytes of the one leaf, where the path ends so, and else no more than the header and the 24 bytes.
+-- It should succeed where the path ends at the frontier. It may read a leaf when that has been searched for. Of a sound archive it pulls no more than a
+-- `history` may, and the bytes of the one leaf, where the path ends so, and else no more than the header and the 24 bytes.
 abbrev pub log_meaning : List ℕ → List ℕ → Meaning
 log_meaning archive path = record (printing_late archive (λ files. log_input files archive path) (λ files. LogsFrom files path)) {
   Should = λ files. HasArchiveWith files archive (λ c. HasValue (frontier_of c.rules path));

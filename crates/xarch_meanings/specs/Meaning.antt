@@ -19,7 +19,7 @@ pub data Made : Type 0 where
   new_file : List ℕ → Made
   next_archive : List ℕ → Made
 
--- It only reads; it reads all, and then drafts what it makes; it reads and drafts in turn; or it is a batch, of which nothing is said.
+-- It only reads; it reads all, and then drafts what it makes; it reads and drafts in turn; or it is a batch, of whose numbers nothing is said.
 pub data Way : Type 0 where
   only_reads : Way
   stores : Made → Way
@@ -97,7 +97,9 @@ pub record Meaning : Type 1 where
   -- what an archive that it replaces holds before and behind it
   pub Changes : Files → Contents → Contents → Type 0
 
--- A command that does this to any files, and of which nothing more is said.
+-- A command that does this: it pulls nothing, prints nothing if it makes a file, meets nothing late, and leaves what an archive holds. Of `Should`,
+-- `ByWords`, `Once`, `Little` and `Fills` nothing is said, and no proof asks for them: set them. `May` and `Silent` follow what is given here, and not a
+-- later change of `Is` and `way`.
 abbrev pub plain : Way → (Files → Result Outcome Refusal → Type 0) → Meaning
 plain way Is = record {
   way = way;

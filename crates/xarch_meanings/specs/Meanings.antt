@@ -107,7 +107,7 @@ OnlyReads c = IsReading (said c).way
 abbrev pub IsSilent : Option PlainCommand → Type 0
 IsSilent c = (said c).Silent
 
--- What is pulled and drafted, from files that are told or not: nothing for words that are no command.
+-- What is pulled and drafted, from files that are told or not: nothing for words that are no command. Of a batch nothing is said.
 abbrev pub CountsAsSaid : Option PlainCommand → Option Files → Numbers → Numbers → Type 0
 CountsAsSaid c told = Meets (said c).way ((said c).most told)
 

@@ -53,6 +53,7 @@ MayMake files name new r = (r ≡ Err (damaged name)) ⊎ (r ≡ Err (limit refu
 abbrev pub DamagedOrSound : Files → List ℕ → Result Outcome Refusal → Type 0
 DamagedOrSound files name r = (r ≡ Err (damaged name)) ⊎ Opened files name (λ _ _. ⊤) r
 
+-- The archive is damaged, or something was written.
 abbrev pub MayWrite : Files → List ℕ → Result Outcome Refusal → Type 0
 MayWrite files name r = (r ≡ Err (damaged name)) ⊎ Written files r
 
