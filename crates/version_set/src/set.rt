@@ -96,6 +96,7 @@ impl VersionSet {
     }
 
     /// Whether both sets have the same numbers.
+    #[inline(always)]
     pub fn same(&self, other: &VersionSet) -> bool
         ensures members { IsTrue result
             ↔ (members (pairs_of self.now) ≡ members (pairs_of other.now)) }
