@@ -14,9 +14,7 @@ pub(crate) fn in_order<'a, 't>(mut kids: Vec<LentKeyed<'a, 't>>) -> Option<Vec<L
     ensures { option_map (λ ks. map lent_view ks.items) result
         ≡ kids_in_order (map lent_view kids.entry.items) }
 {
-    if kids.sort_by(|a, b| a.order(b)).is_err() {
-        kids.sort_unstable_by(|a, b| a.order(b));
-    }
+    kids.sort_unstable_by(|a, b| a.order(b));
     if ascends(&kids) { Some(kids) } else { None }
 }
 

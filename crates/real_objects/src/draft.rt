@@ -181,18 +181,6 @@ impl<'a, R: System> Draft<'a, R> {
         if self.gathered.len().saturating_add(piece.len()) <= GATHERED {
             return self.gather(piece);
         }
-        self.pass_on(piece)
-    }
-
-    /// Adds a piece that does not fit behind what was gathered. None on a failure.
-    #[cold]
-    #[inline(never)]
-    #[tactic(auto, using(crate::proofs::DraftLemmas::passed, crate::proofs::DraftLemmas::written))]
-    fn pass_on(&mut self, piece: &[u8]) -> Option<()>
-        ensures { IfSome result (λ done. IsAdded
-            (R.File.contents self.old.file) self.old.gathered.items
-            (R.File.contents self.new.file) self.new.gathered.items piece.now) }
-    {
         self.flush()?;
         if piece.len() < GATHERED {
             self.gather(piece)

@@ -60,7 +60,7 @@ impl Buffer {
     }
 
     /// Takes so many bytes of a file from the offset on.
-    #[inline(always)]
+    #[inline]
     pub fn fill<F: Folder>(
         &mut self,
         folder: &mut F,

@@ -11,7 +11,6 @@ use crate::fault::CursorFault;
 use xa_outside::{Folder, fill_at};
 
 /// Fills the buffer with the bytes of a file from the offset on. It is damaged where it has fewer.
-#[inline(always)]
 pub fn fill_part<F: Folder>(
     folder: &mut F,
     name: &str,
@@ -38,7 +37,6 @@ pub fn fill_part<F: Folder>(
 }
 
 /// Fills the front of the room with so many bytes of a file from the offset on. It is damaged where it has fewer.
-#[inline(always)]
 pub fn fill_first<F: Folder>(
     folder: &mut F,
     name: &str,

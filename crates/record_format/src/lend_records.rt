@@ -15,7 +15,6 @@ use record_parts::{lend_alternative, lend_opening};
 /// The parts of the record of this kind that all of the bytes are the body of. None for other kinds
 /// than those of View.
 #[tactic(auto, unfolding(crate::specs::Reading::record_of))]
-#[inline(always)]
 pub fn view_body(kind: u8, body: &[u8]) -> Option<View<'_>>
     ensures { option_map shown result ≡ with_parts (record_of kind body.now) }
 {

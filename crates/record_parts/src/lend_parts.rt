@@ -26,7 +26,6 @@ pub fn lend_body(bytes: &[u8]) -> BodyView<'_>
 }
 
 /// The label and the timestamp that all of the bytes are.
-#[inline(always)]
 pub fn lend_opening(body: &[u8]) -> Option<(LabelView<'_>, StampView<'_>)>
     ensures { option_map (λ v. (shown_label v.0, shown_stamp v.1)) result
         ≡ whole (both_at label_at stamp_at) body.now }
@@ -41,7 +40,6 @@ pub fn lend_opening(body: &[u8]) -> Option<(LabelView<'_>, StampView<'_>)>
 }
 
 /// The timestamp and the body that all of the bytes are.
-#[inline(always)]
 pub fn lend_alternative(body: &[u8]) -> Option<(StampView<'_>, BodyView<'_>)>
     ensures { option_map (λ v. (shown_stamp v.0, shown_body v.1)) result
         ≡ whole (both_at stamp_at value_at) body.now }

@@ -13,7 +13,6 @@ use xa_fields::{take_text, take_u8, take_u64};
 
 /// The scalar at the offset, without memory, and the offset behind it.
 #[tactic(auto, unfolding(crate::specs::Reading::scalar_at))]
-#[inline(always)]
 pub fn lend_scalar(bytes: &[u8], at: usize) -> Option<(LentScalar<'_>, usize)>
     ensures found { option_map (λ r. (lent_scalar_view r.0, drop r.1 bytes.now)) result
         ≡ scalar_at (drop at bytes.now) }
@@ -24,7 +23,6 @@ pub fn lend_scalar(bytes: &[u8], at: usize) -> Option<(LentScalar<'_>, usize)>
 }
 
 #[tactic(auto, unfolding(crate::specs::Reading::scalar_of))]
-#[inline(always)]
 pub(crate) fn scalar_of_kind(kind: u8, bytes: &[u8], at: usize) -> Option<(LentScalar<'_>, usize)>
     requires { at ≤ length bytes.now }
     ensures found { option_map (λ r. (lent_scalar_view r.0, drop r.1 bytes.now)) result
@@ -99,7 +97,6 @@ pub(crate) fn lent_name(name: &Name) -> NameView<'_>
 
 /// The name at the offset, and the offset behind it.
 #[tactic(auto, unfolding(crate::specs::Reading::name_at))]
-#[inline(always)]
 pub fn lend_name(bytes: &[u8], at: usize) -> Option<(NameView<'_>, usize)>
     ensures found { option_map (λ r. (shown_name r.0, drop r.1 bytes.now)) result
         ≡ name_at (drop at bytes.now) }
@@ -110,7 +107,6 @@ pub fn lend_name(bytes: &[u8], at: usize) -> Option<(NameView<'_>, usize)>
 }
 
 #[tactic(auto, unfolding(crate::specs::Reading::name_of))]
-#[inline(always)]
 fn name_of_kind(kind: u8, bytes: &[u8], at: usize) -> Option<(NameView<'_>, usize)>
     requires { at ≤ length bytes.now }
     ensures found { option_map (λ r. (shown_name r.0, drop r.1 bytes.now)) result

@@ -229,7 +229,6 @@ fn order_lent_below(
 }
 
 /// The order of the key value at the offset, and, if it is equal, the offset behind it.
-#[inline(always)]
 pub fn order_lent_value(
     bytes: &[u8],
     at: usize,
@@ -248,7 +247,6 @@ pub fn order_lent_value(
     }
 }
 
-#[inline(always)]
 fn order_lent_scalar_value(
     bytes: &[u8],
     at: usize,

@@ -16,7 +16,6 @@ use std::cmp::Ordering;
 use xa_fields::{take_u8, take_u32};
 
 /// The bytes of the text at the offset, where there is one, and the offset behind it.
-#[inline(always)]
 pub fn text_slice(bytes: &[u8], at: usize) -> Option<(&[u8], usize)>
     ensures { (x : List ℕ × List ℕ) → text_at (drop at bytes.now) ≡ Some x
         → option_map (λ r. (r.0.now, drop r.1 bytes.now)) result ≡ Some x }
@@ -33,7 +32,6 @@ pub fn text_slice(bytes: &[u8], at: usize) -> Option<(&[u8], usize)>
 }
 
 /// The order of the text at the offset, and the offset behind it.
-#[inline(always)]
 pub fn order_text(bytes: &[u8], at: usize, other: &str) -> Option<(Ordering, usize)>
     ensures { Compares (λ s. text_cmp s other.now)
         (text_at (drop at bytes.now)) bytes.now result }
@@ -45,7 +43,6 @@ pub fn order_text(bytes: &[u8], at: usize, other: &str) -> Option<(Ordering, usi
 }
 
 /// The order of the scalar at the offset, and, if it is equal, the offset behind it.
-#[inline(always)]
 pub fn order_scalar(bytes: &[u8], at: usize, other: LentScalar<'_>) -> Option<(Ordering, usize)>
     ensures { Compares (λ s. scalar_cmp s (lent_scalar_view other.entry))
         (scalar_at (drop at bytes.now)) bytes.now result }
@@ -63,7 +60,6 @@ pub fn order_scalar(bytes: &[u8], at: usize, other: LentScalar<'_>) -> Option<(O
 }
 
 // A text is above all scalars that are none.
-#[inline(always)]
 fn order_text_scalar(bytes: &[u8], at: usize, other: LentScalar<'_>) -> Option<(Ordering, usize)>
     ensures { Compares (λ s. scalar_cmp s (lent_scalar_view other.entry))
         (scalar_of 5 (drop at bytes.now)) bytes.now result }
@@ -75,7 +71,6 @@ fn order_text_scalar(bytes: &[u8], at: usize, other: LentScalar<'_>) -> Option<(
 }
 
 /// The order of the name at the offset, and, if it is equal, the offset behind it.
-#[inline(always)]
 pub fn order_name(bytes: &[u8], at: usize, other: NameView<'_>) -> Option<(Ordering, usize)>
     ensures { Compares (λ n. name_cmp n (shown_name other.entry))
         (name_at (drop at bytes.now)) bytes.now result }

@@ -14,7 +14,6 @@ use xa_fields::{take_u8, take_u32};
 
 /// The offset behind the label at the offset.
 #[tactic(auto, using(crate::proofs::Skips::skips), unfolding(crate::specs::Reading::label_at, xa_fields::specs::Reading::list_at))]
-#[inline(always)]
 pub fn skip_label(bytes: &[u8], at: usize) -> Option<usize>
     ensures found { option_map (λ n. drop n bytes.now) result
         ≡ behind (label_at (drop at bytes.now)) }
@@ -25,7 +24,6 @@ pub fn skip_label(bytes: &[u8], at: usize) -> Option<usize>
     skip_values(count, bytes, at)
 }
 
-#[inline(always)]
 fn skip_values(count: u32, bytes: &[u8], at: usize) -> Option<usize>
     requires { at ≤ length bytes.now }
     ensures found { option_map (λ n. drop n bytes.now) result
@@ -73,7 +71,6 @@ fn skip_pairs(count: u32, bytes: &[u8], at: usize) -> Option<usize>
 
 /// The offset behind the timestamp at the offset.
 #[tactic(auto, unfolding(crate::specs::Reading::stamp_at))]
-#[inline(always)]
 pub fn skip_stamp(bytes: &[u8], at: usize) -> Option<usize>
     ensures found { option_map (λ n. drop n bytes.now) result
         ≡ behind (stamp_at (drop at bytes.now)) }
@@ -84,7 +81,6 @@ pub fn skip_stamp(bytes: &[u8], at: usize) -> Option<usize>
 }
 
 #[tactic(auto, unfolding(crate::specs::Reading::stamp_of))]
-#[inline(always)]
 fn skip_stamp_of(kind: u8, bytes: &[u8], at: usize) -> Option<usize>
     requires { at ≤ length bytes.now }
     ensures found { option_map (λ n. drop n bytes.now) result

@@ -111,7 +111,6 @@ fn skip_content_below(depth: u32, bytes: &[u8], at: usize) -> Option<usize>
 
 /// The offset behind the key value or body at the offset.
 #[tactic(auto, unfolding(crate::specs::Reading::value_at))]
-#[inline(always)]
 pub fn skip_value(bytes: &[u8], at: usize) -> Option<usize>
     ensures found { option_map (λ n. drop n bytes.now) result
         ≡ behind (value_at (drop at bytes.now)) }
@@ -122,7 +121,6 @@ pub fn skip_value(bytes: &[u8], at: usize) -> Option<usize>
 }
 
 #[tactic(auto, using(crate::proofs::Skips::skips), unfolding(crate::specs::Reading::value_of))]
-#[inline(always)]
 fn skip_value_of(kind: u8, bytes: &[u8], at: usize) -> Option<usize>
     ensures found { option_map (λ n. drop n bytes.now) result
         ≡ behind (value_of kind (drop at bytes.now)) }

@@ -6,7 +6,6 @@ ghost use Rattle.record_writer.specs.Places.{IsAtEnd, set_at};
 use version_set::VersionSet;
 
 /// The place of the set, where it is the first or the last.
-#[inline(always)]
 pub fn find_set(sets: &[VersionSet], set: &VersionSet) -> Option<usize>
     ensures known { IfSome result (λ at. at < length sets.now) }
     ensures at { IfSome result (λ at. set_at sets.now at ≡ pairs_of set.now) }

@@ -83,7 +83,6 @@ impl Row {
     }
 
     /// The place of this set. It is copied where it is neither the first nor the last.
-    #[inline(always)]
     pub fn place(&mut self, set: &VersionSet) -> Result<usize, AllocError>
         ensures at { IfOk result (λ at. set_at self.new.sets.items at ≡ pairs_of set.now) }
         ensures known { IfOk result (λ at. at < length self.new.sets.items) }

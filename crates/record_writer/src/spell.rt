@@ -24,7 +24,6 @@ use std::alloc::AllocError;
 use version_set::VersionSet;
 
 // Appends what a record lends.
-#[inline(always)]
 fn put_old(out: &mut Vec<u8>, bytes: &[u8]) -> Result<(), SpellFault>
     ensures { Spells true out.old.items out.new.items bytes.now result }
 {
@@ -56,7 +55,6 @@ fn put_new_body(out: &mut Vec<u8>, body: &Body) -> Result<(), SpellFault>
     Ok(())
 }
 
-#[inline(always)]
 fn put_label_from(out: &mut Vec<u8>, label: &LabelFrom<'_, '_>) -> Result<(), SpellFault>
     ensures { Spells (label_fits (given_label label.now)) out.old.items out.new.items
         (label_bytes (given_label label.now)) result }
@@ -69,7 +67,6 @@ fn put_label_from(out: &mut Vec<u8>, label: &LabelFrom<'_, '_>) -> Result<(), Sp
     }
 }
 
-#[inline(always)]
 fn put_body_from(out: &mut Vec<u8>, body: &BodyFrom<'_, '_>) -> Result<(), SpellFault>
     ensures { Spells (value_fits (given_body body.now)) out.old.items out.new.items
         (value_bytes (given_body body.now)) result }
@@ -109,7 +106,6 @@ fn is_body_shaped(body: &BodyFrom<'_, '_>)
     }
 }
 
-#[inline(always)]
 fn put_opening(
     record: &mut Vec<u8>,
     kind: u8,
@@ -128,7 +124,6 @@ fn put_opening(
     Ok(())
 }
 
-#[inline(always)]
 fn put_alternative(
     record: &mut Vec<u8>,
     stamp: &Option<VersionSet>,
@@ -146,7 +141,6 @@ fn put_alternative(
 }
 
 /// Spells the record of this kind that opens a node.
-#[inline(always)]
 pub fn spell_opening(
     record: &mut Vec<u8>,
     kind: u8,
@@ -168,7 +162,6 @@ pub fn spell_opening(
 }
 
 /// Spells the record of an alternative.
-#[inline(always)]
 pub fn spell_alternative(
     record: &mut Vec<u8>,
     stamp: &Option<VersionSet>,
@@ -188,7 +181,6 @@ pub fn spell_alternative(
 }
 
 /// Spells the record that closes a leaf.
-#[inline(always)]
 pub fn spell_leaf_end(record: &mut Vec<u8>) -> Result<(), AllocError>
     ensures { OnOk result (record.new.items ≡ rec_bytes leaf_end) }
 {

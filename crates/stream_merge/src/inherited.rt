@@ -98,9 +98,6 @@ pub(crate) fn turned_stamp(
     ensures damage { IsTrue (is_stamp_below (inherited_view from.entry.now).number
         (shown_stamp stamp.entry.now)) → IfErr result (λ e. e ≢ Damage) }
 {
-    if has && !stamp.is_stored() {
-        return Ok(None);
-    }
     let stored = stamp.copy(from.alloc)?;
     turn(stored, has, from)
 }

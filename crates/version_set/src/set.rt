@@ -96,7 +96,6 @@ impl VersionSet {
     }
 
     /// Whether both sets have the same numbers.
-    #[inline(always)]
     pub fn same(&self, other: &VersionSet) -> bool
         ensures members { IsTrue result
             ↔ (members (pairs_of self.now) ≡ members (pairs_of other.now)) }
