@@ -4,3 +4,5 @@ pub mod Names
 pub mod Reading
 pub mod Faults
 pub mod Expected
+pub mod RecordTexts
+pub mod Written

@@ -1,4 +1,1 @@
-pub mod ExportEnds
-pub mod GivingLemmas
 pub mod ImportEnds
-pub mod NotesRead

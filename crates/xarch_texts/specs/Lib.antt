@@ -1,3 +1,2 @@
-pub mod Giving
-pub mod Kept
+pub mod Exported
 pub mod Spelled
