@@ -3,8 +3,6 @@
 
 mod fault;
 mod file;
-mod noted;
 
 pub use fault::CheckFault;
 pub use file::check;
-pub use noted::check_noted;

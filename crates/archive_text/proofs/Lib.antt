@@ -21,9 +21,3 @@ pub mod ReadTree
 pub mod ReadSets
 pub mod ReadParts
 pub mod ReadWhole
-pub mod RecordLines
-pub mod Walking
-pub mod FileNodes
-pub mod FileNotes
-pub mod FileTexts
-pub mod FileFlushed

@@ -44,7 +44,7 @@ nodes_text [] = refl
 nodes_text (k ∷ ks) = flat_map-append line_text (node_lines (node_view k)) (nodes_lines (nodes_view ks)) ∙ ap (λ l. lines_text (node_lines (node_view k)) ++ l) (nodes_text ks)
 
 -- what ends a node, behind lines
-pub ended : (ls : List PlainLine) → lines_text (ls ++ end_line ∷ []) ≡ lines_text ls ++ line_text end_line
+ended : (ls : List PlainLine) → lines_text (ls ++ end_line ∷ []) ≡ lines_text ls ++ line_text end_line
 ended ls = flat_map-append line_text ls (end_line ∷ []) ∙ ap (λ l. lines_text ls ++ l) (append-nil (line_text end_line))
 
 pub inner_is : (k : PlainNode) (l : PlainLabel) (s : Stamp) (ks : List ANode) → k ≡ inner_node l s (nodes_view ks)

@@ -11,6 +11,6 @@ flat_map-map f g (x ∷ xs) = ap (λ l. f (g x) ++ l) (flat_map-map f g xs)
 pub left_of : {X : Type 0} (xs : List X) (i : ℕ) (x : X) → i < length xs → x ≡ get_or xs i x → drop i xs ≡ x ∷ drop (i + 1) xs
 left_of xs i x here is = drop-cons xs i x here ∙ ap (λ y. y ∷ drop (suc i) xs) (sym is) ∙ ap (λ n. x ∷ drop n xs) (sym (add-one i))
 
--- a text behind two others
-pub behind_two : (old a new s t u : List ℕ) → a ≡ old ++ (s ++ t) → new ≡ a ++ u → new ≡ old ++ (s ++ (t ++ u))
-behind_two old a new s t u p q = q ∙ ap (λ l. l ++ u) p ∙ append_assoc old (s ++ t) u ∙ ap (λ l. old ++ l) (append_assoc s t u)
+-- three texts, one behind another
+pub three : (old a b new s t u : List ℕ) → a ≡ old ++ s → b ≡ a ++ t → new ≡ b ++ u → new ≡ old ++ (s ++ (t ++ u))
+three old a b new s t u p q r = r ∙ ap (λ l. l ++ u) (q ∙ ap (λ l. l ++ t) p) ∙ append_assoc (old ++ s) t u ∙ append_assoc old s (t ++ u)

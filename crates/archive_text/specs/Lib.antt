@@ -4,5 +4,3 @@ pub mod Names
 pub mod Reading
 pub mod Faults
 pub mod Expected
-pub mod RecordTexts
-pub mod Written

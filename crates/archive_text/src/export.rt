@@ -9,7 +9,6 @@ ghost use Rattle.archive_tree.specs.ArchiveView.{archive_view};
 ghost use Rattle.jsonml_lines.specs.Lines.{line_text};
 ghost use Rattle.archive_text.specs.Export.{count_line, key_line, note_line, note_lines, lines_text, export_text};
 ghost use Rattle.archive_text.specs.Faults.{HasSinkCause, IfSink};
-ghost use Rattle.archive_text.specs.RecordTexts.{header_text};
 ghost use Rattle.archive_text.specs.Texts.{text_lines};
 
 use crate::draft::{put_end, put_number, put_text, put_word};
@@ -76,22 +75,9 @@ fn put_head(
         ++ (lines_text (map key_line (text_lines (canonical (spec_view spec.now))))
         ++ lines_text (note_lines 1 (map string_bytes notes.now))))) }
 {
-    put_front(alloc, out, spec, n)?;
-    put_notes(out, notes)
-}
-
-/// The lines of a header.
-pub(crate) fn put_front(
-    alloc: Global,
-    out: &mut MemSink,
-    spec: &Spec,
-    n: u32,
-) -> Result<(), AllocError>
-    ensures { OnOk result ((sink_state out.new).taken
-        ≡ (sink_state out.old).taken ++ header_text n (spec_view spec.now)) }
-{
     put_count(out, n)?;
-    put_keys(alloc, out, spec)
+    put_keys(alloc, out, spec)?;
+    put_notes(out, notes)
 }
 
 fn put_count(out: &mut MemSink, n: u32) -> Result<(), AllocError>
@@ -146,7 +132,7 @@ fn put_notes(out: &mut MemSink, notes: &[String]) -> Result<(), AllocError>
 }
 
 /// The line of a note, and nothing where it is empty.
-pub(crate) fn put_if_some(out: &mut MemSink, i: u64, note: &str) -> Result<(), AllocError>
+fn put_if_some(out: &mut MemSink, i: u64, note: &str) -> Result<(), AllocError>
     ensures { OnOk result ((sink_state out.new).taken
         ≡ (sink_state out.old).taken ++ lines_text (note_lines i (note.now ∷ []))) }
 {

@@ -6,9 +6,6 @@ mod draft;
 mod expected;
 mod export;
 mod fault;
-mod file;
-mod file_nodes;
-mod file_notes;
 mod keys;
 mod laws;
 mod lines;
@@ -18,7 +15,6 @@ mod read;
 mod tree;
 
 pub use export::write_text;
-pub use fault::{ExportFault, ReadFault, TextFault};
-pub use file::export_file;
+pub use fault::{ReadFault, TextFault};
 pub use laws::texts_have_one_reading;
 pub use read::{Kept, read_text, read_with_file};

@@ -73,7 +73,7 @@ fn put_texts<K: Sink>(
 }
 
 /// The line that begins a node.
-pub(crate) fn put_begun<K: Sink>(
+fn put_begun<K: Sink>(
     alloc: Global,
     out: &mut K,
     word: &str,
@@ -97,7 +97,7 @@ pub(crate) fn put_begun<K: Sink>(
 
 /// The line that ends a node.
 #[tactic(auto, unfolding(json::specs::Print::escape_byte))]
-pub(crate) fn put_node_end<K: Sink>(out: &mut K) -> Result<(), TextFault>
+fn put_node_end<K: Sink>(out: &mut K) -> Result<(), TextFault>
     ensures bytes { Puts (K.taken out.old) (K.taken out.new) result (line_text end_line) }
     ensures cause { HasSinkCause (K.faults out.old) (K.faults out.new) result }
 {
@@ -122,7 +122,7 @@ fn put_body<K: Sink>(out: &mut K, stamp: &str, body: &KeyVal) -> Result<(), Fail
     end_line(out)
 }
 
-pub(crate) fn put_alt<K: Sink>(alloc: Global, out: &mut K, alt: &Alt) -> Result<(), TextFault>
+fn put_alt<K: Sink>(alloc: Global, out: &mut K, alt: &Alt) -> Result<(), TextFault>
     ensures bytes { Puts (K.taken out.old) (K.taken out.new) result
         (line_text (alt_line (alt_view alt.now))) }
     ensures cause { HasSinkCause (K.faults out.old) (K.faults out.new) result }

@@ -1,1 +1,4 @@
+pub mod ExportEnds
+pub mod GivingLemmas
 pub mod ImportEnds
+pub mod NotesRead

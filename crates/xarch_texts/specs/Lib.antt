@@ -1,2 +1,3 @@
-pub mod Exported
+pub mod Giving
+pub mod Kept
 pub mod Spelled
