@@ -21,3 +21,4 @@ pub mod ReadTree
 pub mod ReadSets
 pub mod ReadParts
 pub mod ReadWhole
+pub mod Fronts

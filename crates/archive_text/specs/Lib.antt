@@ -4,3 +4,4 @@ pub mod Names
 pub mod Reading
 pub mod Faults
 pub mod Expected
+pub mod Front

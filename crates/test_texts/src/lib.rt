@@ -4,6 +4,8 @@
 #[cfg(test)]
 mod contents;
 #[cfg(test)]
+mod imported;
+#[cfg(test)]
 mod read;
 #[cfg(test)]
 mod written;
