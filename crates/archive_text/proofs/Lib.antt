@@ -21,4 +21,3 @@ pub mod ReadTree
 pub mod ReadSets
 pub mod ReadParts
 pub mod ReadWhole
-pub mod Fronts

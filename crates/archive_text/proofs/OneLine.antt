@@ -18,7 +18,7 @@ line_is l m e = cc
 feed_on : (l : PlainLine) (rest : List ℕ) → line_text l ++ rest ≡ front_text l ++ 10 ∷ rest
 feed_on l rest = append_assoc (front_text l) (10 ∷ []) rest
 
-pub one_line : LinesReadBack → (l m : PlainLine) (r s : List ℕ) → IsLine l → IsLine m → line_text l ++ r ≡ line_text m ++ s → (l ≡ m) × (r ≡ s)
+one_line : LinesReadBack → (l m : PlainLine) (r s : List ℕ) → IsLine l → IsLine m → line_text l ++ r ≡ line_text m ++ s → (l ≡ m) × (r ≡ s)
 one_line back l m r s h k e =
     let own = back l h in
     let other = back m k in

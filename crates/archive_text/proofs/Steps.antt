@@ -14,7 +14,3 @@ left_of xs i x here is = drop-cons xs i x here ∙ ap (λ y. y ∷ drop (suc i) 
 -- three texts, one behind another
 pub three : (old a b new s t u : List ℕ) → a ≡ old ++ s → b ≡ a ++ t → new ≡ b ++ u → new ≡ old ++ (s ++ (t ++ u))
 three old a b new s t u p q r = r ∙ ap (λ l. l ++ u) (q ∙ ap (λ l. l ++ t) p) ∙ append_assoc (old ++ s) t u ∙ append_assoc old s (t ++ u)
-
--- a text behind two that came at once
-pub behind_two : (old a new s t u : List ℕ) → a ≡ old ++ (s ++ t) → new ≡ a ++ u → new ≡ old ++ (s ++ (t ++ u))
-behind_two old a new s t u p q = q ∙ ap (λ l. l ++ u) p ∙ append_assoc old (s ++ t) u ∙ ap (λ l. old ++ l) (append_assoc s t u)

@@ -4,4 +4,3 @@ pub mod Names
 pub mod Reading
 pub mod Faults
 pub mod Expected
-pub mod Front

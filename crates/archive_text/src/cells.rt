@@ -55,7 +55,7 @@ fn whole_at(cells: &[KeyVal], i: usize) -> i128
 }
 
 /// The name with that text.
-pub fn name_of(alloc: Global, text: &str) -> Result<Name, AllocError>
+pub(crate) fn name_of(alloc: Global, text: &str) -> Result<Name, AllocError>
     ensures { (n : PlainName) → IsNamed n → text.now ≡ name_text n
         → IfOk result (λ m. name_view m ≡ n) }
 {
@@ -66,7 +66,7 @@ pub fn name_of(alloc: Global, text: &str) -> Result<Name, AllocError>
 }
 
 /// The set with that text, and none where it is empty.
-pub fn stamp_of(alloc: Global, text: &str) -> Result<Option<VersionSet>, ReadFault>
+pub(crate) fn stamp_of(alloc: Global, text: &str) -> Result<Option<VersionSet>, ReadFault>
     ensures { (s : Stamp) → IsStamp s → text.now ≡ stamp_text s
         → Finds result (λ o. stamp_view o ≡ s) }
 {

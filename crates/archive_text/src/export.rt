@@ -75,23 +75,9 @@ fn put_head(
         ++ (lines_text (map key_line (text_lines (canonical (spec_view spec.now))))
         ++ lines_text (note_lines 1 (map string_bytes notes.now))))) }
 {
-    put_front(alloc, out, spec, n)?;
-    put_notes(out, notes)
-}
-
-/// The lines of a header.
-pub(crate) fn put_front(
-    alloc: Global,
-    out: &mut MemSink,
-    spec: &Spec,
-    n: u32,
-) -> Result<(), AllocError>
-    ensures { OnOk result ((sink_state out.new).taken ≡ (sink_state out.old).taken
-        ++ (line_text (count_line n)
-        ++ lines_text (map key_line (text_lines (canonical (spec_view spec.now)))))) }
-{
     put_count(out, n)?;
-    put_keys(alloc, out, spec)
+    put_keys(alloc, out, spec)?;
+    put_notes(out, notes)
 }
 
 fn put_count(out: &mut MemSink, n: u32) -> Result<(), AllocError>

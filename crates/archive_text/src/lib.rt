@@ -6,7 +6,6 @@ mod draft;
 mod expected;
 mod export;
 mod fault;
-mod front;
 mod keys;
 mod laws;
 mod lines;
@@ -15,9 +14,7 @@ mod notes;
 mod read;
 mod tree;
 
-pub use cells::{name_of, stamp_of};
 pub use export::write_text;
 pub use fault::{ReadFault, TextFault};
-pub use front::read_front;
 pub use laws::texts_have_one_reading;
 pub use read::{Kept, read_text, read_with_file};

@@ -152,7 +152,7 @@ fn read_parts(alloc: Global, bytes: &[u8]) -> Result<Kept, ReadFault>
     })
 }
 
-pub(crate) fn read_count(alloc: Global, bytes: &[u8]) -> Result<(u32, usize), ReadFault>
+fn read_count(alloc: Global, bytes: &[u8]) -> Result<(u32, usize), ReadFault>
     ensures found { (n : ℕ) (ls : List PlainLine) → n ≤ MOST_VERSIONS
         → AreLines (count_line n ∷ ls) bytes.now
         → Finds result (λ r. (r.0 ≡ n) × AreLines ls (drop r.1 bytes.now)) }

@@ -4,5 +4,3 @@ pub mod Feeds
 pub mod Cells
 pub mod PlainCells
 pub mod Taking
-pub mod LineParts
-pub mod Exact

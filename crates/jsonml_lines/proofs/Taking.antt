@@ -89,20 +89,6 @@ line_at-printed bytes rest l line texts is =
     ∙ line_at-cut whole front rest (position (λ b. b == 10) whole) there
     ∙ ap (option_map (with_rest rest)) (line_of-some front l (trip.utf8 texts) trip.value)
 
--- where the feed of a printed line stands
-pub printed_cut : (rest : List ℕ) (l : PlainLine) → IsLine l → Some (front_text l, rest) ≡ option_map (cut (line_text l ++ rest)) (position (λ b. b == 10) (line_text l ++ rest))
-printed_cut rest l line =
-    let trip = line_reads_back l line in
-    let front = front_text l in
-    let whole = front ++ 10 ∷ rest in
-    let at : (front, rest) ≡ cut whole (length front) = ap₂ (λ s t. (s, t)) (sym (take-append_seam front (10 ∷ rest))) (sym (drop_front front rest)) in
-    let there : Some (front, rest) ≡ option_map (cut whole) (position (λ b. b == 10) whole) = ap Some at ∙ sym (ap (option_map (cut whole)) (feed_at front rest trip.unbroken)) in
-    there ∙ ap (λ (w : List ℕ). option_map (cut w) (position (λ b. b == 10) w)) (sym (append_assoc front (10 ∷ []) rest))
-
--- and what is read in front of it
-pub printed_line : (l : PlainLine) → IsLine l → AreLineTexts l → line_of (front_text l) ≡ Some l
-printed_line l line texts = (let trip = line_reads_back l line in line_of-some (front_text l) l (trip.utf8 texts) trip.value)
-
 -- a line in memory and an offset, as they are seen
 abbrev seen_in : List ℕ → Line × ℕ → PlainLine × List ℕ
 seen_in bytes r = (line_view r.0, drop r.1 bytes)

@@ -12,6 +12,5 @@ mod write;
 pub use jsonml_print::write_content;
 pub use laws::printed_lines_read_back;
 pub use line::Line;
-pub use plain::{lend_cell, lend_text};
-pub use read::{exact_line, take_line};
+pub use read::take_line;
 pub use write::{end_line, write_cell, write_text_cell, write_word};

@@ -4,9 +4,6 @@
 ghost use Rattle.std.specs.Prelude.{◌≡◌, ◌++◌, ◌∷◌, [], map, IfOk, IfSome};
 ghost use Rattle.std.specs.List.{AllByRecursion};
 ghost use Rattle.json.specs.Print.{escape, quoted};
-ghost use Rattle.jsonml_tree.specs.Data.{string};
-ghost use Rattle.keyed_tree.specs.Data.{scalar};
-ghost use Rattle.keyed_tree.specs.LentView.{lent_val_view};
 ghost use Rattle.keyed_tree.specs.View.{key_view};
 ghost use Rattle.jsonml_lines.specs.Lines.{cell_text, cells_text, front_text};
 ghost use Rattle.jsonml_lines.specs.RoundTrip.{IsCell, IsLine};
@@ -14,8 +11,8 @@ ghost use Rattle.jsonml_lines.specs.View.{line_view};
 
 use crate::line::Line;
 use jsonml_print::plain_run;
-use jsonml_tree::{LentContent, LentScalar};
-use keyed_tree::{KeyVal, LentVal};
+use jsonml_tree::{Content, Scalar};
+use keyed_tree::KeyVal;
 use std::alloc::{AllocError, Global};
 
 /// The line that the bytes are, where each of its cells is a plain text or an array of one.
@@ -76,64 +73,41 @@ fn plain_cell(alloc: Global, bytes: &[u8]) -> Result<Option<(KeyVal, &[u8])>, Al
         (λ r. bytes.now ≡ 44 ∷ (cell_text (key_view r.0) ++ r.1.now))) }
     ensures cell { IfOk result (λ o. IfSome o (λ r. IsCell (key_view r.0))) }
 {
-    match lend_cell(bytes) {
-        Some((cell, rest)) => {
-            let cell = cell.own(alloc)?;
-            Ok(Some((cell, rest)))
+    match bytes {
+        [b',', b'"', behind @ ..] => text_cell(alloc, behind),
+        [b',', b'[', b'"', behind @ ..] => array_cell(alloc, behind),
+        _ => Ok(None),
+    }
+}
+
+/// The text that goes on behind a quote, as a cell, and what stands behind it.
+fn text_cell(alloc: Global, bytes: &[u8]) -> Result<Option<(KeyVal, &[u8])>, AllocError>
+    ensures text { IfOk result (λ o. IfSome o
+        (λ r. 34 ∷ bytes.now ≡ cell_text (key_view r.0) ++ r.1.now)) }
+    ensures cell { IfOk result (λ o. IfSome o (λ r. IsCell (key_view r.0))) }
+{
+    match plain_text(bytes) {
+        Some((text, rest)) => {
+            let text = String::from_str(alloc, text)?;
+            Ok(Some((KeyVal::Scalar(Scalar::Text(text)), rest)))
         }
         None => Ok(None),
     }
 }
 
-/// The cell in front with its comma, and what stands behind it, where the cell is a plain text or an array of one. It takes no
-/// memory.
-pub fn lend_cell(bytes: &[u8]) -> Option<(LentVal<'_, '_>, &[u8])>
-    ensures text { IfSome result
-        (λ r. bytes.now ≡ 44 ∷ (cell_text (lent_val_view r.0) ++ r.1.now)) }
-    ensures cell { IfSome result (λ r. IsCell (lent_val_view r.0)) }
-{
-    match bytes {
-        [b',', b'"', behind @ ..] => text_cell(behind),
-        [b',', b'[', b'"', behind @ ..] => array_cell(behind),
-        _ => None,
-    }
-}
-
-/// The text of the cell in front with its comma, and what stands behind it, where the cell is a plain text. It takes no memory.
-pub fn lend_text(bytes: &[u8]) -> Option<(&str, &[u8])>
-    ensures { IfSome result
-        (λ r. bytes.now ≡ 44 ∷ (cell_text (scalar (string r.0.now)) ++ r.1.now)) }
-{
-    match bytes {
-        [b',', b'"', behind @ ..] => plain_text(behind),
-        _ => None,
-    }
-}
-
-/// The text that goes on behind a quote, as a cell, and what stands behind it.
-fn text_cell(bytes: &[u8]) -> Option<(LentVal<'_, '_>, &[u8])>
-    ensures text { IfSome result
-        (λ r. 34 ∷ bytes.now ≡ cell_text (lent_val_view r.0) ++ r.1.now) }
-    ensures cell { IfSome result (λ r. IsCell (lent_val_view r.0)) }
-{
-    match plain_text(bytes) {
-        Some((text, rest)) => Some((LentVal::Scalar(LentScalar::Text(text)), rest)),
-        None => None,
-    }
-}
-
 /// The array of the text that goes on behind a quote, as a cell, and what stands behind it.
-fn array_cell(bytes: &[u8]) -> Option<(LentVal<'_, '_>, &[u8])>
-    ensures text { IfSome result
-        (λ r. 91 ∷ 34 ∷ bytes.now ≡ cell_text (lent_val_view r.0) ++ r.1.now) }
-    ensures cell { IfSome result (λ r. IsCell (lent_val_view r.0)) }
+fn array_cell(alloc: Global, bytes: &[u8]) -> Result<Option<(KeyVal, &[u8])>, AllocError>
+    ensures text { IfOk result (λ o. IfSome o
+        (λ r. 91 ∷ 34 ∷ bytes.now ≡ cell_text (key_view r.0) ++ r.1.now)) }
+    ensures cell { IfOk result (λ o. IfSome o (λ r. IsCell (key_view r.0))) }
 {
     match plain_text(bytes) {
         Some((text, [b']', rest @ ..])) => {
-            Some((LentVal::Content(LentContent::Text(text)), rest))
+            let content = Content::of_text(alloc, text)?;
+            Ok(Some((KeyVal::Content(content), rest)))
         }
-        Some(_) => None,
-        None => None,
+        Some(_) => Ok(None),
+        None => Ok(None),
     }
 }
 

@@ -1,8 +1,8 @@
-ghost use Rattle.std.specs.Prelude.{◌≡◌, ◌<◌, ◌≤◌, ◌↔◌, ◌++◌, ℕ, List, length, drop, map, IfOk, IfSome, IsTrue, option_map};
+ghost use Rattle.std.specs.Prelude.{◌≡◌, ◌<◌, ◌≤◌, ◌++◌, ℕ, List, length, drop, map, IfOk, IfSome, IsTrue, option_map};
 ghost use Rattle.std.specs.Option.{IsSomeAnd};
 ghost use Rattle.keyed_tree.specs.View.{key_view};
 ghost use Rattle.keyed_tree.specs.WellFormed.{are_keys_well_formed};
-ghost use Rattle.jsonml_lines.specs.Lines.{PlainLine, front_text, line_text};
+ghost use Rattle.jsonml_lines.specs.Lines.{PlainLine, line_text};
 ghost use Rattle.jsonml_lines.specs.Read.{line_at, line_of};
 ghost use Rattle.jsonml_lines.specs.RoundTrip.{AreLineTexts, IsLine};
 ghost use Rattle.jsonml_lines.specs.View.{line_view};
@@ -11,10 +11,8 @@ use crate::line::Line;
 use crate::plain::plain_line;
 use crate::split::split_line;
 use crate::value::line_in;
-use crate::write::write_front;
 use serde_json::Value;
 use std::alloc::{AllocError, Global};
-use xa_outside::MemSink;
 
 /// The line that begins at an offset, and the offset behind its line feed. None exactly where no line feed follows, or what
 /// stands in front of the first is no array of a string, scalars and contents. It recurses as deep as JSON nests, which is at
@@ -53,63 +51,6 @@ fn line_of(alloc: Global, front: &[u8]) -> Result<Option<Line>, AllocError>
     match plain_line(alloc, front)? {
         Some(line) => Ok(Some(line)),
         None => line_by_value(alloc, front),
-    }
-}
-
-/// The line at the front of the bytes, and what stands behind its line feed, where its bytes are those that are written for the
-/// line. None exactly where no such line stands there, but for one whose texts are not UTF-8 or whose elements nest too deep.
-pub fn exact_line(alloc: Global, bytes: &[u8]) -> Result<Option<(Line, &[u8])>, AllocError>
-    ensures text { IfOk result (λ o. IfSome o
-        (λ r. bytes.now ≡ line_text (line_view r.0) ++ r.1.now)) }
-    ensures found { (l : PlainLine) (rest : List ℕ) → IsLine l → AreLineTexts l
-        → bytes.now ≡ line_text l ++ rest
-        → IfOk result (λ o. IsSomeAnd o (λ r. (line_view r.0 ≡ l) × (r.1.now ≡ rest))) }
-{
-    match split_line(bytes, 0) {
-        Some((front, next)) => match exact_line_of(alloc, front)? {
-            Some(line) => Ok(Some((line, &bytes[next..]))),
-            None => Ok(None),
-        },
-        None => Ok(None),
-    }
-}
-
-/// The line that stands in front of a line feed, where what stands there is written for it.
-fn exact_line_of(alloc: Global, front: &[u8]) -> Result<Option<Line>, AllocError>
-    ensures text { IfOk result (λ o. IfSome o (λ l. front.now ≡ front_text (line_view l))) }
-    ensures found { (l : PlainLine) → IsLine l → AreLineTexts l → front.now ≡ front_text l
-        → IfOk result (λ o. IsSomeAnd o (λ r. line_view r ≡ l)) }
-{
-    match plain_line(alloc, front)? {
-        Some(line) => Ok(Some(line)),
-        None => written_line(alloc, front),
-    }
-}
-
-/// The same, by way of its JSON value.
-fn written_line(alloc: Global, front: &[u8]) -> Result<Option<Line>, AllocError>
-    ensures text { IfOk result (λ o. IfSome o (λ l. front.now ≡ front_text (line_view l))) }
-    ensures found { (l : PlainLine) → IsLine l → AreLineTexts l → front.now ≡ front_text l
-        → IfOk result (λ o. IsSomeAnd o (λ r. line_view r ≡ l)) }
-{
-    match line_by_value(alloc, front)? {
-        Some(line) => if is_written(alloc, &line, front)? {
-            Ok(Some(line))
-        } else {
-            Ok(None)
-        },
-        None => Ok(None),
-    }
-}
-
-/// Whether the bytes are those that are written for a line in front of its line feed.
-fn is_written(alloc: Global, line: &Line, front: &[u8]) -> Result<bool, AllocError>
-    ensures { IfOk result (λ b. IsTrue b ↔ (front.now ≡ front_text (line_view line.now))) }
-{
-    let mut sink = MemSink::new(alloc, Vec::new(alloc));
-    match write_front(line.word.as_str(), &line.cells, &mut sink) {
-        Ok(()) => Ok(sink.taken() == front),
-        Err(_) => Err(AllocError),
     }
 }
 

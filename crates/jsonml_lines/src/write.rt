@@ -1,12 +1,11 @@
 #![tactic(auto, using(xa_outside::specs::TakenLaws::outputs))]
 
-ghost use Rattle.std.specs.Prelude.{◌++◌, ◌∷◌, [], map};
-ghost use Rattle.std.specs.List.{flat_map};
+ghost use Rattle.std.specs.Prelude.{◌++◌, ◌∷◌, []};
 ghost use Rattle.json.specs.Print.{quoted};
 ghost use Rattle.xa_outside.specs.Taken.{Puts};
 ghost use Rattle.xa_outside.specs.Causes.{HasCause};
 ghost use Rattle.keyed_tree.specs.View.{key_view};
-ghost use Rattle.jsonml_lines.specs.Lines.{cell_text, front_text};
+ghost use Rattle.jsonml_lines.specs.Lines.{cell_text};
 
 use jsonml_print::{write_behind_quote, write_content, write_scalar};
 use keyed_tree::KeyVal;
@@ -57,31 +56,4 @@ pub fn end_line<K: Sink>(sink: &mut K) -> Result<(), Failed>
     ensures cause { HasCause (K.faults sink.old) (K.faults sink.new) result }
 {
     put_all(sink, b"]\n")
-}
-
-/// Writes a line of this word and these cells, without its line feed.
-pub(crate) fn write_front<K: Sink>(
-    word: &str,
-    cells: &[KeyVal],
-    sink: &mut K,
-) -> Result<(), Failed>
-    ensures bytes { Puts (K.taken sink.old) (K.taken sink.new) result
-        (front_text (record { word = word.now; cells = map key_view cells.now })) }
-    ensures cause { HasCause (K.faults sink.old) (K.faults sink.new) result }
-{
-    write_word(word, sink)?;
-    write_cells(cells, sink)?;
-    put_all(sink, b"]")
-}
-
-/// Writes cells, each behind a comma.
-fn write_cells<K: Sink>(cells: &[KeyVal], sink: &mut K) -> Result<(), Failed>
-    ensures bytes { Puts (K.taken sink.old) (K.taken sink.new) result
-        (flat_map (λ k. 44 ∷ cell_text (key_view k)) cells.now) }
-    ensures cause { HasCause (K.faults sink.old) (K.faults sink.new) result }
-{
-    for cell in cells {
-        write_cell(cell, sink)?;
-    }
-    Ok(())
 }

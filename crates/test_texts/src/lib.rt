@@ -4,8 +4,6 @@
 #[cfg(test)]
 mod contents;
 #[cfg(test)]
-mod imported;
-#[cfg(test)]
 mod read;
 #[cfg(test)]
 mod written;

@@ -1,18 +1,16 @@
 //! What is read from texts.
-use crate::imported::{is_fault_told, is_imported, is_not_imported};
 use crate::written::{WRITTEN, Written, is_written};
 use archive_text::{Kept, ReadFault, read_text, read_with_file, write_text};
 use archive_tree::Archive;
 use given_archives::{
-    GREAT_SIZES, Judge, NEVER, SIZES, archive, file, folder, hold_large, hold_listed, specification,
+    GREAT_SIZES, Judge, SIZES, archive, file, hold_large, hold_listed, specification,
 };
 use given_parts::bytes::{Pieces, joined};
 use given_parts::told;
 use key_spec::Spec;
 use std::alloc::Global;
 use std::test::Fail;
-use version_notes::{NoteWriter, is_note};
-use xa_outside::{Folder, MemSink};
+use xa_outside::MemSink;
 
 fn are_same_notes(ours: &[String], others: &[&str]) -> bool {
     ours.len() == others.len()
@@ -27,42 +25,13 @@ fn is_kept(alloc: Global, kept: &Kept, notes: &[&str], text: &[u8]) -> bool {
     are_same_notes(&kept.notes, notes) && is_written(alloc, &kept.spec, &kept.archive, notes, text)
 }
 
-/// Whether the text is imported as the file with the notes behind it.
-fn is_imported_noted(alloc: Global, notes: &[String], text: &[u8], file: &[u8]) -> bool {
-    match noted(alloc, notes, file) {
-        Some(noted) => is_imported(alloc, text, &noted),
-        None => false,
-    }
-}
-
-/// The file with the notes behind it.
-fn noted(alloc: Global, notes: &[String], file: &[u8]) -> Option<Vec<u8>> {
-    let mut folder = folder(alloc, &[], NEVER)?;
-    folder.append(file).ok()?;
-    let mut writer = NoteWriter::start(false);
-    for note in notes {
-        if !is_note(note.as_str()) || notes.len() > 999_999 {
-            return None;
-        }
-        writer.push(&mut folder, note.as_str()).ok()?;
-    }
-    writer.finish(&mut folder).ok()?;
-    folder.commit("noted").ok()?;
-    Vec::from_slice(alloc, folder.file("noted")?).ok()
-}
-
 /// Whether the text and the file of an archive are read of the text, with the notes.
 fn is_read_back(alloc: Global, text: &[u8], notes: &[&str], file: &[u8]) -> bool {
     if text.len() > 67_108_864 {
         return false;
     }
     match read_with_file(alloc, text) {
-        Ok((kept, found)) => {
-            found.as_slice() == file
-                && is_kept(alloc, &kept, notes, text)
-                && is_imported_noted(alloc, &kept.notes, text, file)
-                && is_fault_told(alloc, text)
-        }
+        Ok((kept, found)) => found.as_slice() == file && is_kept(alloc, &kept, notes, text),
         Err(_) => false,
     }
 }
@@ -104,7 +73,7 @@ fn is_file_read(alloc: Global, text: &[u8], file: &[u8]) -> bool {
         return false;
     }
     match read_with_file(alloc, text) {
-        Ok((_, found)) => found.as_slice() == file && is_imported(alloc, text, file),
+        Ok((_, found)) => found.as_slice() == file,
         Err(_) => false,
     }
 }
@@ -356,7 +325,7 @@ fn is_refused(alloc: Global, text: &[u8]) -> bool {
     if text.len() > 67_108_864 {
         return false;
     }
-    matches!(read_text(alloc, text), Err(ReadFault::Bad)) && is_not_imported(alloc, text)
+    matches!(read_text(alloc, text), Err(ReadFault::Bad))
 }
 
 fn is_long_refused(alloc: Global, text: Pieces) -> bool {

@@ -1,27 +1,29 @@
 #![tactic(auto)]
 
-ghost use Rattle.std.specs.Prelude.{◌≡◌, ◌≤◌, ℕ, length, Some, Err, IfOk, IfErr, OnOk};
+ghost use Rattle.std.specs.Prelude.{◌≡◌, ◌≤◌, ℕ, length, map, Some, IfOk, IfErr, string_bytes};
 ghost use Rattle.xa_outside.specs.Folder.{Files};
 ghost use Rattle.xa_outside.specs.Taken.{Taken};
+ghost use Rattle.version_notes.specs.Notes.{AreNotes};
 ghost use Rattle.xarch_words.specs.Commands.{import};
 ghost use Rattle.xarch_words.specs.Refusal.{Refusal, refused};
 ghost use Rattle.xarch_words.specs.View.{fault_view};
 ghost use Rattle.xarch_words.specs.declared.limits.TheConstants.{TEXT};
-ghost use Rattle.xarch_parts.specs.Ends.{IsCaused, Matches, fault_of};
-ghost use Rattle.xarch_parts.specs.Folders.{ReadsOnly, WritesOnly};
+ghost use Rattle.xarch_parts.specs.Ends.{IsInside, Matches, fault_of};
+ghost use Rattle.xarch_parts.specs.Folders.{ReadsOnly};
 ghost use Rattle.xarch_meanings.specs.Import.{IsNoText, import_text};
 ghost use Rattle.xarch_meanings.specs.Performs.{Performs};
-ghost use Rattle.xarch_texts.specs.Spelled.{FileDrafted};
+ghost use Rattle.xarch_texts.specs.Spelled.{IsFileOf};
 
+use archive_text::{ReadFault, read_with_file};
+use archive_tree::archives_stand_for_one_list;
 use std::alloc::Global;
-use text_import::{ImportFault, import_text};
 use xa_outside::Folder;
-use xarch_parts::{begin, check_free, commit, limited_length, read_whole};
+use xarch_parts::{begin, check_free, limited_length, read_whole, store_noted};
 use xarch_words::{Fault, Quantity, limits};
 
 /// Makes the archive of a text, with its notes.
 ///
-/// The text is read whole and held. Each record is drafted as its line is read.
+/// The text is read whole. It, the archive, its notes and its file are held.
 pub fn run_import<F: Folder>(
     alloc: Global,
     text: &str,
@@ -33,8 +35,8 @@ pub fn run_import<F: Folder>(
 {
     begin(folder)?;
     let bytes = read_input(alloc, text, new, folder)?;
-    import_file(alloc, &bytes, folder)?;
-    commit(folder, new)
+    let (core, notes) = file_of(alloc, &bytes)?;
+    store_noted(new, &core, &notes, false, folder)
 }
 
 // The bytes of the text, where the new name is free.
@@ -55,22 +57,21 @@ fn read_input<F: Folder>(
     read_whole(alloc, folder, text, length)
 }
 
-// Drafts the file of the archive whose text the bytes are, with its notes.
-fn import_file<F: Folder>(alloc: Global, bytes: &[u8], folder: &mut F) -> Result<(), Fault>
-    ensures writes { WritesOnly F.files F.draft F.numbers folder.old folder.new
-        (fault_of result) }
-    ensures files { F.files folder.new ≡ F.files folder.old }
-    ensures caused { (out : ℕ)
-        → IsCaused (F.faults folder.old) (F.faults folder.new) out out (fault_of result) }
-    ensures drafted { OnOk result
-        (FileDrafted bytes.now (F.draft folder.old) (F.draft folder.new)) }
+// The file of the archive whose text the bytes are, and the notes that come behind it.
+fn file_of(alloc: Global, bytes: &[u8]) -> Result<(Vec<u8>, Vec<String>), Fault>
+    requires { length bytes.now ≤ TEXT }
+    ensures cause { IsInside (fault_of result) }
+    ensures file { IfOk result
+        (λ r. IsFileOf bytes.now r.0.items (map string_bytes r.1.items)) }
+    ensures notes { IfOk result (λ r. AreNotes (map string_bytes r.1.items)) }
     ensures refused { (q : Refusal)
         → IfErr result (λ f. fault_view f ≡ refused q → IsNoText bytes.now (Err q)) }
 {
-    match import_text(alloc, folder, bytes) {
-        Ok(()) => Ok(()),
-        Err(ImportFault::Bad) => Err(Fault::BadText),
-        Err(ImportFault::Folder) => Err(Fault::FolderFault),
-        Err(ImportFault::Memory) => Err(Fault::Memory),
+    // A law, for the proof of `file`.
+    archives_stand_for_one_list();
+    match read_with_file(alloc, bytes) {
+        Ok((kept, core)) => Ok((core, kept.notes)),
+        Err(ReadFault::Bad) => Err(Fault::BadText),
+        Err(ReadFault::Memory) => Err(Fault::Memory),
     }
 }
